@@ -1,13 +1,16 @@
-// A library with one function.
+//! Shaders: declarations, and a tree of lists of blocks, ifs and loops.
 #![tactic(auto)]
 
-ghost use Rattle.std.specs.Prelude.{◌≡◌};
-ghost use Rattle.nir_ir.specs.Echo.{echo_of};
+mod ids;
+mod instr;
+mod journal;
+mod kind;
+mod lists;
+mod node;
 
-// The `ensures` clause is the contract: what `echo` returns is `echo_of` of its argument, a definition
-// in `specs/Echo.antt`, which a caller's clause can cite too.
-pub fn echo(x: usize) -> usize
-    ensures { result ≡ echo_of x }
-{
-    x
-}
+pub use ids::{BlockId, EffectId, IfId, LoopId, ValueId};
+pub use instr::{Instr, Src};
+pub use journal::{Journal, Step, Use};
+pub use kind::{Kind, Kinds};
+pub use lists::{Comps, Srcs, Swizzle};
+pub use node::{Block, Instrs, Jump, List, Node, Phi, PhiSource, PhiSources, Phis};
