@@ -7,6 +7,7 @@ mod journal;
 mod kind;
 mod lists;
 mod node;
+mod shader;
 
 pub use ids::{BlockId, EffectId, IfId, LoopId, ValueId};
 pub use instr::{Instr, Src};
@@ -14,3 +15,4 @@ pub use journal::{Journal, Step, Use};
 pub use kind::{Kind, Kinds};
 pub use lists::{Comps, Srcs, Swizzle};
 pub use node::{Block, Instrs, Jump, List, Node, Phi, PhiSource, PhiSources, Phis};
+pub use shader::Shader;
