@@ -8,10 +8,12 @@ ghost use Rattle.nir_host.specs.Faults.{next_count};
 #[derive(Clone, Copy, Debug, PartialEq, Eq)]
 pub struct Failed;
 
-/// Which of the two texts that are read.
+/// Which of the two texts that are read an answer is about.
 #[derive(Clone, Copy, Debug, PartialEq, Eq)]
 pub enum Which {
+    /// The text of the rules.
     Rules,
+    /// The text of the shader.
     Shader,
 }
 

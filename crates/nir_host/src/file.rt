@@ -61,3 +61,33 @@ fn read_opened(file: &mut Option<File>, into: &mut [u8]) -> Result<usize, Failed
         None => Err(Failed),
     }
 }
+
+#[cfg(test)]
+mod tests {
+    use super::*;
+    use crate::reading::read_all;
+    use std::fs;
+    use std::test::Fail;
+
+    #[test]
+    fn a_missing_file_fails_at_each_read(rt: HostRuntime) {
+        let mut source = FileSource::open(&rt, "there-is-no-such-file");
+        let mut buffer = [0; 4];
+        for faults in 1..3 {
+            assert_eq!(rt; source.read(&mut buffer), Err(Failed));
+            assert_eq!(rt; source.faults, faults);
+        }
+    }
+
+    #[test]
+    fn a_file_is_read_to_its_end(rt: HostRuntime) -> Result<(), Fail> {
+        let path = "file-source-of-a-test";
+        fs::write(&rt, path, "some text")?;
+        let mut source = FileSource::open(&rt, path);
+        let all = read_all(rt.alloc(), &mut source, 100)?;
+        fs::remove_file(&rt, path)?;
+        assert_eq!(rt; all.as_slice(), b"some text".as_slice());
+        assert_eq!(rt; source.faults, 0);
+        Ok(())
+    }
+}

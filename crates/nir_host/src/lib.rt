@@ -11,6 +11,8 @@ mod seq;
 mod sink;
 mod source;
 mod standard;
+#[cfg(test)]
+mod tests;
 mod writing;
 
 pub use fault::{Failed, Which};

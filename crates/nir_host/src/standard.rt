@@ -136,3 +136,29 @@ fn write_some<W: Write>(to: &mut W, from: &[u8]) -> Result<usize, Failed>
         Err(_error) => Err(Failed),
     }
 }
+
+#[cfg(test)]
+mod tests {
+    use super::*;
+
+    #[test]
+    fn standard_input_gives_no_more_than_the_buffer_holds(rt: HostRuntime) {
+        let mut source = StdinSource::new(rt.stdin());
+        assert_eq!(rt; source.read(&mut []), Ok(0));
+        assert_eq!(rt; source.faults, 0);
+    }
+
+    #[test]
+    fn standard_output_takes_a_line(rt: HostRuntime) {
+        let mut sink = StdoutSink::new(rt.stdout());
+        assert_eq!(rt; sink.write(b"to output\n"), Ok(10));
+        assert_eq!(rt; sink.faults, 0);
+    }
+
+    #[test]
+    fn standard_error_takes_a_line(rt: HostRuntime) {
+        let mut sink = StderrSink::new(rt.stderr());
+        assert_eq!(rt; sink.write(b"to error\n"), Ok(9));
+        assert_eq!(rt; sink.faults, 0);
+    }
+}
