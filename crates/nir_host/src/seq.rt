@@ -114,4 +114,15 @@ impl<T: Copy> Seq<T> {
             Err(_error) => Err(OutOfMemory),
         }
     }
+
+    /// Adds these items at the end, in order. After `OutOfMemory` the list is as it was.
+    pub fn extend_from_slice(&mut self, items: &[T]) -> Result<(), OutOfMemory>
+        ensures ok { OnOk result (self.new ≡ self.old ++ items.now) }
+        ensures err { OnErr result (self.new ≡ self.old) }
+    {
+        match self.items.extend_from_slice(items) {
+            Ok(()) => Ok(()),
+            Err(_error) => Err(OutOfMemory),
+        }
+    }
 }
