@@ -1,1 +1,4 @@
+pub mod Lookup
+pub mod Names
+pub mod Opcodes
 pub mod Width
