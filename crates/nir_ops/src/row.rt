@@ -32,6 +32,11 @@ pub struct OpInput {
 }
 
 impl Default for OpInput {
+    ghost use Rattle.std.specs.Prelude.{◌≡◌, None};
+    ghost use Rattle.nir_ops.specs.declared.row.Base.TheVariants.{Uint};
+
+    ghost is_default = { λ input. input ≡ record { count = 0; kind = record { base = Uint; size = None } } };
+
     fn default() -> OpInput {
         OpInput {
             count: 0,
