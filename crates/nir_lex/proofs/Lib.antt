@@ -1,1 +1,4 @@
+pub mod Order
+pub mod Sound
+pub mod Steps
 pub mod Values

@@ -1,5 +1,5 @@
 -- What the loop over digits needs, and the two limits of a number.
-use Rattle.std.proofs.Common.{◌≡◌, ℕ, zero, suc, ◌+◌, ◌*◌, ◌^◌, ◌<◌, ◌≤◌, Bool, true, false, cond, ltb, leb, List, [], ◌∷◌, length, get_or, drop, Option, Some, None, ℤ, pos, neg_ℤ, ◌-ℤ◌, to_z, of_z, refl, sym, ap, ◌∙◌, arith}
+use Rattle.std.proofs.Common.{◌≡◌, ℕ, zero, suc, ◌+◌, ◌*◌, ◌^◌, ◌<◌, ◌≤◌, true, false, cond, ltb, List, [], ◌∷◌, length, get_or, drop, Some, None, ℤ, pos, neg_ℤ, ◌-ℤ◌, to_z, of_z, refl, sym, ap, ◌∙◌, arith}
 use Rattle.std.specs.Option.{option_map}
 use Rattle.std.specs.Int.{w128}
 use Rattle.std.specs.Char.{digit_value}

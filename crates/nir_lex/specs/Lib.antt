@@ -1,2 +1,5 @@
 pub mod Classes
 pub mod Numbers
+pub mod Pieces
+pub mod Reading
+pub mod Laws

@@ -1,6 +1,6 @@
 //! The classes of bytes that the rules of tokens name, and the longest runs of them.
 
-ghost use Rattle.std.specs.Prelude.{◌≡◌, ◌==◌};
+ghost use Rattle.std.specs.Prelude.{◌≡◌, ◌≤◌, ◌==◌, length};
 ghost use Rattle.std.specs.List.{prefix_len};
 ghost use Rattle.std.specs.Char.{is_ascii_digit, is_ascii_hexdigit};
 ghost use Rattle.nir_lex.specs.Classes.{starts_word, is_in_word, is_blank, is_in_comment, is_quote, is_inside_quotes, is_punctuation, begins};
@@ -77,7 +77,8 @@ pub fn comment_run(bytes: &[u8]) -> usize
 
 /// How many bytes at the front may stand between two of these quotes.
 pub fn quoted_run(quote: u8, bytes: &[u8]) -> usize
-    ensures { result ≡ prefix_len (is_inside_quotes quote) bytes.now }
+    ensures value { result ≡ prefix_len (is_inside_quotes quote) bytes.now }
+    ensures within { result ≤ length bytes.now }
 {
     bytes.iter().take_while(|byte| is_inside_quotes(quote, **byte)).count()
 }

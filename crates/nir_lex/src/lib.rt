@@ -3,12 +3,15 @@
 
 mod class;
 mod fault;
+mod lexer;
 mod number;
+mod piece;
 
 
 
 mod token;
 
 pub use fault::LexFault;
+pub use lexer::{tokens, tokens_are_in_order};
 
 pub use token::{Token, TokenKind, Tokens};
