@@ -63,6 +63,7 @@ tokens_from-in_order place zero (byte ∷ bytes) tokens within is =
     subst (λ (n : ℕ). AreTokensFrom n (place + suc (length bytes)) tokens) low (subst (λ (n : ℕ). AreTokensFrom place n tokens) high all)
 
 pub in_order : TokensAreInOrder
+unfolding read_tokens
 in_order text tokens is =
     let low : 0 + 0 ≡ 0 = omega arith in
     let high : 0 + length text ≡ length text = omega arith in

@@ -1,6 +1,6 @@
 -- The classes of bytes of which the tokens of a text are made, as in the texts of Mesa's NIR.
-use Rattle.std.specs.Prelude.{ℕ, Bool, false, not, ◌&&◌, ◌||◌, ◌==◌, List, [], ◌∷◌}
-use Rattle.std.specs.List.{list_any}
+use Rattle.std.specs.Prelude.{ℕ, Bool, false, not, ◌&&◌, ◌||◌, ◌==◌, List, [], ◌∷◌, length}
+use Rattle.std.specs.List.{list_any, prefix_len}
 use Rattle.std.specs.Int.{is_in_range}
 use Rattle.std.specs.Char.{is_ascii_alphabetic, is_ascii_alphanumeric}
 use Rattle.std.specs.Prelude.{codes}
@@ -36,3 +36,7 @@ is_punctuation byte = list_any (λ mark. mark == byte) (codes "()[]{},:;=@.*")
 abbrev pub begins : (ℕ → Bool) → List ℕ → Bool
 begins class [] = false
 begins class (byte ∷ bytes) = class byte
+
+-- the bytes are one word: the first starts it, and all are in it
+unfoldable pub is_word : List ℕ → Bool
+is_word bytes = begins starts_word bytes && prefix_len is_in_word bytes == length bytes

@@ -32,13 +32,13 @@ decimal place first rest = let count = prefix_len is_ascii_digit rest in number_
 -- hexadecimal digits behind `0x`: one or more
 unfoldable pub hexadecimal : ℕ → List ℕ → Result Piece LexFault
 hexadecimal place rest = let digits = drop 1 rest in
-  let count = prefix_len is_ascii_hexdigit digits in
-  if count == 0 then Err (BadNumber place) else number_piece place (limited (pos (digits_value 16 (take count digits)))) (1 + count) rest
+    let count = prefix_len is_ascii_hexdigit digits in
+    if count == 0 then Err (BadNumber place) else number_piece place (limited (pos (digits_value 16 (take count digits)))) (1 + count) rest
 
 -- decimal digits behind a minus: one or more
 unfoldable pub negative : ℕ → List ℕ → Result Piece LexFault
 negative place rest = let count = prefix_len is_ascii_digit rest in
-  if count == 0 then Err (BadByte place) else number_piece place (limited (neg_ℤ (pos (digits_value 10 (take count rest))))) count rest
+    if count == 0 then Err (BadByte place) else number_piece place (limited (neg_ℤ (pos (digits_value 10 (take count rest))))) count rest
 
 -- `0x` begins a hexadecimal number, and any other digit a decimal one
 unfoldable pub unsigned : ℕ → ℕ → List ℕ → Result Piece LexFault
@@ -51,17 +51,17 @@ name place rest = let count = prefix_len is_in_word rest in if count == 0 then E
 -- what stands between two equal quotes; the first byte that cannot is bad, and so is the text's end
 unfoldable pub quoted : ℕ → ℕ → List ℕ → Result Piece LexFault
 quoted place quote rest = let count = prefix_len (is_inside_quotes quote) rest in
-  if begins (λ byte. byte == quote) (drop count rest) then token_piece Quoted (count + 1) else Err (BadByte (place + 1 + count))
+    if begins (λ byte. byte == quote) (drop count rest) then token_piece Quoted (count + 1) else Err (BadByte (place + 1 + count))
 
 -- the piece that begins with this byte: 35 is `#`, 45 is `-`, and 37 is `%`
 unfoldable pub piece_at : ℕ → ℕ → List ℕ → Result Piece LexFault
 piece_at place first rest =
-  if is_blank first then gap 0
-  else (if first == 35 then gap (prefix_len is_in_comment rest)
-  else (if starts_word first then token_piece Word (prefix_len is_in_word rest)
-  else (if is_ascii_digit first then unsigned place first rest
-  else (if first == 45 then negative place rest
-  else (if first == 37 then name place rest
-  else (if is_quote first then quoted place first rest
-  else (if is_punctuation first then token_piece (Punct first) 0
-  else Err (BadByte place))))))))
+    if is_blank first then gap 0
+    else (if first == 35 then gap (prefix_len is_in_comment rest)
+    else (if starts_word first then token_piece Word (prefix_len is_in_word rest)
+    else (if is_ascii_digit first then unsigned place first rest
+    else (if first == 45 then negative place rest
+    else (if first == 37 then name place rest
+    else (if is_quote first then quoted place first rest
+    else (if is_punctuation first then token_piece (Punct first) 0
+    else Err (BadByte place))))))))

@@ -35,7 +35,7 @@ tokens_from place (suc skip) (byte ∷ bytes) = tokens_from (place + 1) skip byt
 tokens_from place zero (byte ∷ bytes) = piece_then place (piece_at place byte bytes) (λ skip. tokens_from (place + 1) skip bytes)
 
 -- the tokens of a text
-abbrev pub read_tokens : List ℕ → Result (List Token) LexFault
+unfoldable pub read_tokens : List ℕ → Result (List Token) LexFault
 read_tokens text = tokens_from 0 0 text
 
 -- an answer is what reading gives, unless memory ran out

@@ -3,7 +3,7 @@
 ghost use Rattle.std.specs.Prelude.{◌≡◌, ◌≤◌, ◌==◌, length};
 ghost use Rattle.std.specs.List.{prefix_len};
 ghost use Rattle.std.specs.Char.{is_ascii_digit, is_ascii_hexdigit};
-ghost use Rattle.nir_lex.specs.Classes.{starts_word, is_in_word, is_blank, is_in_comment, is_quote, is_inside_quotes, is_punctuation, begins};
+ghost use Rattle.nir_lex.specs.Classes.{starts_word, is_in_word, is_blank, is_in_comment, is_quote, is_inside_quotes, is_punctuation, is_word, begins};
 
 #[tactic(auto, unfolding(crate::specs::Classes::starts_word))]
 pub fn starts_word(byte: u8) -> bool
@@ -47,6 +47,14 @@ pub fn is_punctuation(byte: u8) -> bool
     b"()[]{},:;=@.*".contains(&byte)
 }
 
+/// Whether the bytes are one word: a letter or `_`, and then letters, digits and `_`.
+#[tactic(auto, unfolding(crate::specs::Classes::is_word))]
+pub fn is_word(bytes: &[u8]) -> bool
+    ensures { result ≡ is_word bytes.now }
+{
+    begins_word(bytes) && word_run(bytes) == bytes.len()
+}
+
 /// How many bytes at the front may stand in a word.
 pub fn word_run(bytes: &[u8]) -> usize
     ensures { result ≡ prefix_len is_in_word bytes.now }
@@ -58,14 +66,20 @@ pub fn word_run(bytes: &[u8]) -> usize
 pub fn digit_run(bytes: &[u8]) -> usize
     ensures { result ≡ prefix_len is_ascii_digit bytes.now }
 {
-    bytes.iter().take_while(|byte| byte.is_ascii_digit()).count()
+    bytes
+        .iter()
+        .take_while(|byte| byte.is_ascii_digit())
+        .count()
 }
 
 /// How many bytes at the front are hexadecimal digits.
 pub fn hex_digit_run(bytes: &[u8]) -> usize
     ensures { result ≡ prefix_len is_ascii_hexdigit bytes.now }
 {
-    bytes.iter().take_while(|byte| byte.is_ascii_hexdigit()).count()
+    bytes
+        .iter()
+        .take_while(|byte| byte.is_ascii_hexdigit())
+        .count()
 }
 
 /// How many bytes at the front belong to a comment: all before the line feed.
@@ -80,7 +94,10 @@ pub fn quoted_run(quote: u8, bytes: &[u8]) -> usize
     ensures value { result ≡ prefix_len (is_inside_quotes quote) bytes.now }
     ensures within { result ≤ length bytes.now }
 {
-    bytes.iter().take_while(|byte| is_inside_quotes(quote, **byte)).count()
+    bytes
+        .iter()
+        .take_while(|byte| is_inside_quotes(quote, **byte))
+        .count()
 }
 
 /// Whether a word could begin here.

@@ -37,6 +37,7 @@ fn add_kind(
     }
 }
 
+#[tactic(auto, unfolding(crate::specs::Reading::read_tokens))]
 fn all_tokens(alloc: Global, text: &[u8]) -> Result<Tokens, LexFault>
     ensures { Gives result (read_tokens text.now) }
 {
@@ -78,5 +79,4 @@ pub fn tokens(alloc: Global, text: &[u8]) -> Result<Tokens, LexFault>
 /// The tokens of every text stand in it one behind the other, up to its end.
 pub fn tokens_are_in_order()
     ensures { TokensAreInOrder }
-{
-}
+{}

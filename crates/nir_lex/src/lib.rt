@@ -6,12 +6,12 @@ mod fault;
 mod lexer;
 mod number;
 mod piece;
-
-
-
 mod token;
 
+pub use class::is_word;
 pub use fault::LexFault;
 pub use lexer::{tokens, tokens_are_in_order};
-
 pub use token::{Token, TokenKind, Tokens};
+
+#[cfg(test)]
+mod tests;

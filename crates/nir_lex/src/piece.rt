@@ -3,7 +3,10 @@
 ghost use Rattle.std.specs.Prelude.{◌≡◌, ◌+◌, ◌<◌, ◌≤◌, ◌^◌, length};
 ghost use Rattle.nir_lex.specs.Pieces.{number_piece, decimal, hexadecimal, negative, unsigned, name, quoted, piece_at};
 
-use crate::class::{begins_with, begins_word, comment_run, digit_run, hex_digit_run, is_blank, is_punctuation, is_quote, quoted_run, starts_word, word_run};
+use crate::class::{
+    begins_with, begins_word, comment_run, digit_run, hex_digit_run, is_blank, is_punctuation,
+    is_quote, quoted_run, starts_word, word_run,
+};
 use crate::fault::LexFault;
 use crate::number;
 use crate::token::TokenKind;
@@ -33,7 +36,12 @@ fn gap(tail: usize) -> Piece
 }
 
 #[tactic(auto, unfolding(crate::specs::Pieces::number_piece))]
-fn number_piece(place: u64, value: Option<i128>, tail: usize, rest: &[u8]) -> Result<Piece, LexFault>
+fn number_piece(
+    place: u64,
+    value: Option<i128>,
+    tail: usize,
+    rest: &[u8],
+) -> Result<Piece, LexFault>
     requires { tail ≤ length rest.now }
     ensures { result ≡ number_piece place value tail rest.now }
 {
@@ -97,11 +105,11 @@ fn unsigned(place: u64, first: u8, rest: &[u8]) -> Result<Piece, LexFault>
 fn name(place: u64, rest: &[u8]) -> Result<Piece, LexFault>
     ensures { result ≡ name place rest.now }
 {
-    let count = word_run(rest);
-    if count == 0 {
+    let letters = word_run(rest);
+    if letters == 0 {
         return Err(LexFault::BadByte(place));
     }
-    Ok(token(TokenKind::Name, count))
+    Ok(token(TokenKind::Name, letters))
 }
 
 #[tactic(auto, unfolding(crate::specs::Pieces::quoted))]

@@ -28,5 +28,19 @@ pub struct Token {
     pub end: u64,
 }
 
+impl Token {
+    ghost use Rattle.std.specs.Prelude.{◌≡◌, ◌≤◌, length};
+    ghost use Rattle.nir_lex.specs.Laws.{token_text};
+
+    /// The bytes that the token takes of its text.
+    pub fn text<'a>(&self, text: &'a [u8]) -> &'a [u8]
+        requires ordered { self.now.start ≤ self.now.end }
+        requires within { self.now.end ≤ length text.now }
+        ensures { result.now ≡ token_text text.now self.now }
+    {
+        &text[self.start as usize..self.end as usize]
+    }
+}
+
 /// The tokens of a text in its order. The last is the end.
 pub type Tokens = Seq<Token>;

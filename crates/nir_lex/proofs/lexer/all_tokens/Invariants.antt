@@ -7,7 +7,7 @@ use Rattle.nir_lex.proofs.lexer.all_tokens.Given as goal
 abbrev pub invariant-pieces : goal.invariant-pieces
 invariant-pieces l = record {
   so_far : with_front l.list (tokens_from l.place 0 l.rest) ≡ read_tokens l.text;
-  place : l.place + length l.rest ≡ length l.text
+  place : l.place + length l.rest ≡ length l.text;
 }
 
 abbrev pub decreases-pieces : goal.decreases-pieces
