@@ -5,6 +5,7 @@ ghost use Rattle.std.specs.List.Sorted.{IsStrictlyIncreasing};
 ghost use Rattle.std.specs.Option.{option_map, option_to_list};
 ghost use Rattle.nir_lex.specs.Reading.{Gives, read_tokens, end_token, token};
 ghost use Rattle.nir_lex.specs.Laws.{AreTokensFrom, IsWithin, TokensAreInOrder};
+ghost use Rattle.nir_lex.specs.Spelling.{SpelledIsRead, BlanksArePassed};
 
 use crate::fault::LexFault;
 use crate::piece::piece_at;
@@ -80,3 +81,15 @@ pub fn tokens(alloc: Global, text: &[u8]) -> Result<Tokens, LexFault>
 pub fn tokens_are_in_order()
     ensures { TokensAreInOrder }
 {}
+
+/// A token that is spelled in a text is read there, and reading goes on behind it.
+pub fn spelled_is_read()
+    ensures { SpelledIsRead }
+{
+}
+
+/// Reading passes over a blank.
+pub fn blanks_are_passed()
+    ensures { BlanksArePassed }
+{
+}

@@ -10,7 +10,7 @@ mod token;
 
 pub use class::is_word;
 pub use fault::LexFault;
-pub use lexer::{tokens, tokens_are_in_order};
+pub use lexer::{blanks_are_passed, spelled_is_read, tokens, tokens_are_in_order};
 pub use token::{Token, TokenKind, Tokens};
 
 #[cfg(test)]

@@ -90,7 +90,12 @@ fn whole_texts(rt: HostRuntime) -> Result<(), Fail> {
         at(TokenKind::End, 24, 24),
     ];
     assert_eq!(rt; list.as_slice(), wanted.as_slice());
-    assert_eq!(rt; at(TokenKind::Word, 11, 14).text(text), b"add".as_slice());
+    let word = Token {
+        kind: TokenKind::Word,
+        start: 11,
+        end: 14,
+    };
+    assert_eq!(rt; word.text(text), b"add".as_slice());
     assert_eq!(rt;
         tokens(rt.alloc(), b"")?.as_slice(),
         [at(TokenKind::End, 0, 0)].as_slice()
