@@ -77,7 +77,7 @@ read_on place kind byte bytes rest is =
     let others : ℕ → Result (List Token) LexFault = λ skip. tokens_from (place + 1) skip (bytes ++ rest) in
     let first = ap (λ r. piece_then place r others) is in
     let behind : tokens_from (place + 1) (length bytes) (bytes ++ rest) ≡ tokens_from (place + 1 + length bytes) 0 rest =
-        passes (place + 1) (length bytes) (bytes ++ rest) (omega (arith, length-append bytes rest)) ∙ ap (tokens_from (place + 1 + length bytes) 0) (drop_at bytes rest (length bytes) refl) in
+    passes (place + 1) (length bytes) (bytes ++ rest) (omega (arith, length-append bytes rest)) ∙ ap (tokens_from (place + 1 + length bytes) 0) (drop_at bytes rest (length bytes) refl) in
     let end : place + 1 + length bytes ≡ place + suc (length bytes) = omega arith in
     first ∙ ap (with_first (Some (token place (place + 1 + length bytes) kind))) behind ∙ ap (λ (n : ℕ). with_first (Some (token place n kind)) (tokens_from n 0 rest)) end
 

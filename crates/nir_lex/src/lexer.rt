@@ -85,11 +85,9 @@ pub fn tokens_are_in_order()
 /// A token that is spelled in a text is read there, and reading goes on behind it.
 pub fn spelled_is_read()
     ensures { SpelledIsRead }
-{
-}
+{}
 
 /// Reading passes over a blank.
 pub fn blanks_are_passed()
     ensures { BlanksArePassed }
-{
-}
+{}
