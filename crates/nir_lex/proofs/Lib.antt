@@ -1,0 +1,5 @@
+pub mod Order
+pub mod Sound
+pub mod Spelled
+pub mod Steps
+pub mod Values

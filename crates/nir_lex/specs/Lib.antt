@@ -1,0 +1,6 @@
+pub mod Classes
+pub mod Numbers
+pub mod Pieces
+pub mod Reading
+pub mod Laws
+pub mod Spelling
