@@ -1,6 +1,7 @@
 //! Shaders: declarations, and a tree of lists of blocks, ifs and loops.
 #![tactic(auto)]
 
+mod find;
 mod ids;
 mod instr;
 mod journal;
@@ -8,6 +9,8 @@ mod kind;
 mod lists;
 mod node;
 mod shader;
+#[cfg(test)]
+mod tests;
 
 pub use ids::{BlockId, EffectId, IfId, LoopId, ValueId};
 pub use instr::{Instr, Src};
