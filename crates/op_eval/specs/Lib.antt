@@ -1,0 +1,6 @@
+pub mod Calls
+pub mod Meaning
+pub mod Views
+pub mod Word
+pub mod Words
+pub mod Worked
