@@ -1,0 +1,11 @@
+pub mod Instrs
+pub mod KindTable
+pub mod Kinds
+pub mod Naming
+pub mod Parts
+pub mod Reading
+pub mod Signs
+pub mod Table
+pub mod Tree
+pub mod View
+pub mod Within
