@@ -1,0 +1,4 @@
+pub mod Naming
+pub mod Renumber
+pub mod Sample
+pub mod Text
