@@ -1,0 +1,88 @@
+//! The optimiser of shader texts: `nir_opt RULES < SHADER`.
+#![tactic(auto)]
+
+mod first_form;
+mod lines;
+mod run;
+mod status;
+#[cfg(test)]
+mod tests;
+mod texts;
+mod words;
+
+ghost use Rattle.std.specs.Prelude.{◌≡◌, ◌<◌};
+
+use nir_host::{Bytes, FileSource, Sink, StderrSink, StdinSource, StdoutSink};
+use nir_search::Steps;
+use run::run;
+use std::marker::Brand;
+use std::process::ExitCode;
+use std::sync::ledger::{Blank, Ledger};
+use std::{env, io};
+
+/// The status where the arguments cannot be read for another cause than want of memory.
+const UNREADABLE: u8 = 16;
+
+/// The status for want of memory.
+const NO_MEMORY: u8 = 10;
+
+fn main(rt: HostRuntime) -> ExitCode {
+    ExitCode::from(started(&rt))
+}
+
+/// Takes the arguments, and answers the status.
+fn started(rt: &HostRuntime) -> u8 {
+    let args = match env::args(rt) {
+        Ok(args) => args,
+        Err(error) => return refused(rt, &error),
+    };
+    let mut words = Vec::new(rt.alloc());
+    for arg in args.skip(1) {
+        if words.push(Bytes::from_vec(arg.into_bytes())).is_err() {
+            return NO_MEMORY;
+        }
+    }
+    counted::<Brand>(rt, words.as_slice(), Blank::new(1))
+}
+
+/// Why there are no arguments.
+fn refused(rt: &HostRuntime, error: &io::Error) -> u8 {
+    if error.kind() == io::ErrorKind::OutOfMemory {
+        return NO_MEMORY;
+    }
+    let mut notes = StderrSink::new(rt.stderr());
+    let _ = notes.write(b"arguments unreadable\n");
+    UNREADABLE
+}
+
+/// Opens the file that the words name, runs on the standard streams, and answers the status. Nothing
+/// is done with the count of steps.
+fn counted<L: Ledger>(rt: &HostRuntime, words: &[Bytes], blank: Blank) -> u8
+    requires name { blank.name ≡ L.name }
+    requires parts { blank.parts ≡ L.parts }
+    requires some { 0 < blank.parts }
+{
+    let mut rules = FileSource::open(rt, path_of(words));
+    let mut shader = StdinSource::new(rt.stdin());
+    let mut out = StdoutSink::new(rt.stdout());
+    let mut notes = StderrSink::new(rt.stderr());
+    let mut steps = Steps::<L>::new(blank);
+    let report = run(
+        rt.alloc(),
+        words,
+        &mut rules,
+        &mut shader,
+        &mut out,
+        &mut notes,
+        &mut steps,
+    );
+    report.status.number()
+}
+
+/// The first word as a path, or the empty path.
+fn path_of(words: &[Bytes]) -> &str {
+    match words {
+        [] => "",
+        [first, ..] => str::from_utf8(first.as_slice()).unwrap_or(""),
+    }
+}

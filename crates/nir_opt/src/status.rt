@@ -1,0 +1,52 @@
+//! How a run ends, and the report of it.
+
+ghost use Rattle.std.specs.Prelude.{◌≡◌};
+ghost use Rattle.nir_opt.specs.Answers.{number_of};
+
+use nir_host::Which;
+use nir_ir::Journal;
+
+/// How a run ended. The numbers, the causes and the lines are in `docs/COMMANDS.md`.
+#[derive(Clone, Copy, Debug, PartialEq, Eq)]
+pub enum Status {
+    /// The whole text was taken.
+    Ok,
+    /// The words have no reading.
+    Usage,
+    /// A fault of that source was counted.
+    ReadFault(Which),
+    /// A fault of the output was counted; it took a front of the text.
+    WriteFault,
+    /// That text is not of the form that is built.
+    NotBuilt(Which),
+    /// There was no memory.
+    OutOfMemory,
+}
+
+impl Status {
+    /// The number with which the program ends.
+    pub fn number(self) -> u8
+        ensures { result ≡ number_of self }
+    {
+        match self {
+            Status::Ok => 0,
+            Status::Usage => 2,
+            Status::ReadFault(_) => 3,
+            Status::WriteFault => 4,
+            Status::OutOfMemory => 10,
+            Status::NotBuilt(_) => 12,
+        }
+    }
+}
+
+/// What a run did: how it ended, the steps in order, how many of them were rewrites, the limit on
+/// rewrites, whether the limit stopped it, and the place of a syntax fault, else 0.
+#[derive(Debug, Drop)]
+pub struct Report {
+    pub status: Status,
+    pub journal: Journal,
+    pub rewrites: u64,
+    pub limit: u64,
+    pub stopped: bool,
+    pub place: u64,
+}
