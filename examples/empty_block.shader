@@ -1,0 +1,8 @@
+shader
+inputs []
+outputs []
+buffers 0
+{
+  block b0 {
+  }
+}
