@@ -247,3 +247,11 @@ one_small a bound h positive (suc at) = positive
 pub two_small : (a b bound : ℕ) → a < bound → b < bound → 0 < bound → (at : ℕ) → slice_index (a ∷ b ∷ []) at < bound
 two_small a b bound h g positive zero = h
 two_small a b bound h g positive (suc at) = one_small b bound g positive at
+
+pub three_small : (a b c bound : ℕ) → a < bound → b < bound → c < bound → 0 < bound → (at : ℕ) → slice_index (a ∷ b ∷ c ∷ []) at < bound
+three_small a b c bound h g f positive zero = h
+three_small a b c bound h g f positive (suc at) = two_small b c bound g f positive at
+
+pub four_small : (a b c d bound : ℕ) → a < bound → b < bound → c < bound → d < bound → 0 < bound → (at : ℕ) → slice_index (a ∷ b ∷ c ∷ d ∷ []) at < bound
+four_small a b c d bound h g f e positive zero = h
+four_small a b c d bound h g f e positive (suc at) = three_small b c d bound g f e positive at

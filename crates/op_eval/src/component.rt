@@ -13,6 +13,8 @@ use nir_ops::{Op, Width};
 
 /// The word that the opcode makes of these words, at the bit size of its result. The opcode works component by
 /// component, and the bit sizes and the number of the words fit it.
+// Inlined, the words of a call stay in registers.
+#[inline(always)]
 pub fn eval(op: Op, dst: Width, args: &[Word]) -> u64
     requires each { per_component op ≡ true }
     requires fits { Fits op dst (words_widths args.now) }
@@ -30,6 +32,7 @@ pub fn eval(op: Op, dst: Width, args: &[Word]) -> u64
 }
 
 /// The unsized bit size of the call.
+#[inline(always)]
 pub fn call_width(op: Op, dst: Width, args: &[Word]) -> Width
     ensures { result ≡ unsized_width op dst (words_widths args.now) }
 {
@@ -40,6 +43,7 @@ pub fn call_width(op: Op, dst: Width, args: &[Word]) -> Width
 }
 
 /// The bits of the word at a place, and 0 past the end.
+#[inline(always)]
 fn bits_at(args: &[Word], at: usize) -> u64
     ensures value { result ≡ slice_index (words_bits args.now) at }
     ensures small { result < 2 ^ bits_of (slice_get (words_widths args.now) at) }

@@ -1,7 +1,6 @@
 //! The table of values, and opcodes on lists.
 
-ghost use Rattle.std.specs.Prelude.{◌≡◌, [], ◌∷◌, true};
-ghost use Rattle.nir_ops.specs.declared.width.Width.TheVariants.{W8};
+ghost use Rattle.std.specs.Prelude.{◌≡◌, true, length};
 ghost use Rattle.op_eval.specs.Calls.{Fits, per_component, result_width, size_at, source_widths};
 ghost use Rattle.op_eval.specs.Words.{words_widths};
 
@@ -13,6 +12,7 @@ use crate::whole_list::eval_view;
 use crate::word::Word;
 use nir_ops::Width::{self, W1, W8, W16, W32, W64};
 use nir_ops::{Inputs, Op, allowed, info};
+use std::process::Abort;
 
 #[test]
 fn opcodes_have_their_values(rt: HostRuntime) {
@@ -37,47 +37,208 @@ fn opcodes_have_their_values(rt: HostRuntime) {
 
 #[test]
 #[tactic(auto, unfolding(nir_ops::specs::Opcodes::op_allows, nir_ops::specs::Opcodes::op_info, nir_ops::specs::Opcodes::row_of, crate::specs::Calls::result_width, crate::specs::Calls::source_widths, crate::specs::Calls::unsized_width))]
+fn places_have_their_values(rt: HostRuntime) {
+    let mut sums = pair(W8, 0);
+    eval_view(Op::Iadd, W8, &[pair(W8, 1), pair(W8, 1)], &mut sums);
+    assert!(rt; sums.comps.as_slice() == [0xfe, 2].as_slice());
+}
+
+/// Each opcode on whole lists, at each bit size.
+#[test]
 fn lists_have_their_values(rt: HostRuntime) {
-    let mut sums = two(0, 0);
-    eval_view(Op::Iadd, W8, &[two(255, 1), two(1, 1)], &mut sums);
-    assert!(rt; sums.comps.as_slice() == [0, 2].as_slice());
-    let mut equal = one(0);
-    eval_view(Op::BallIequal2, W1, &[two(255, 1), two(255, 2)], &mut equal);
-    assert!(rt; equal.comps.as_slice() == [0].as_slice());
-    let mut differ = one(0);
+    for width in [W1, W8, W16, W32, W64] {
+        pairs_at(&rt, width);
+        triples_at(&rt, width);
+        quads_at(&rt, width);
+    }
+}
+
+/// Lists of two that differ in their last component alone, and equal ones.
+#[tactic(auto, unfolding(nir_ops::specs::Opcodes::op_allows, nir_ops::specs::Opcodes::op_info, nir_ops::specs::Opcodes::row_of, crate::specs::Calls::result_width, crate::specs::Calls::source_widths, crate::specs::Calls::unsized_width))]
+fn pairs_at(rt: &impl Abort, width: Width) {
+    let ones = word(width, u64::MAX).bits;
+    let mut made = pair(width, 1);
+    eval_view(
+        Op::Vec2,
+        width,
+        &[single(width, u64::MAX), single(width, 0)],
+        &mut made,
+    );
+    assert!(rt; made.comps.as_slice() == [ones, 0].as_slice());
+    let mut bit = single(W1, 0);
+    eval_view(
+        Op::BallIequal2,
+        W1,
+        &[pair(width, 0), pair(width, 0)],
+        &mut bit,
+    );
+    assert!(rt; bit.comps.as_slice() == [1].as_slice());
+    eval_view(
+        Op::BallIequal2,
+        W1,
+        &[pair(width, 0), pair(width, 1)],
+        &mut bit,
+    );
+    assert!(rt; bit.comps.as_slice() == [0].as_slice());
     eval_view(
         Op::BanyInequal2,
         W1,
-        &[two(255, 1), two(255, 2)],
-        &mut differ,
+        &[pair(width, 0), pair(width, 0)],
+        &mut bit,
     );
-    assert!(rt; differ.comps.as_slice() == [1].as_slice());
-    let mut gathered = two(0, 0);
-    eval_view(Op::Vec2, W8, &[one(7), one(9)], &mut gathered);
-    assert!(rt; gathered.comps.as_slice() == [7, 9].as_slice());
+    assert!(rt; bit.comps.as_slice() == [0].as_slice());
+    eval_view(
+        Op::BanyInequal2,
+        W1,
+        &[pair(width, 0), pair(width, 1)],
+        &mut bit,
+    );
+    assert!(rt; bit.comps.as_slice() == [1].as_slice());
 }
 
-/// A view of one component of 8 bits.
+/// The same with lists of three.
+#[tactic(auto, unfolding(nir_ops::specs::Opcodes::op_allows, nir_ops::specs::Opcodes::op_info, nir_ops::specs::Opcodes::row_of, crate::specs::Calls::result_width, crate::specs::Calls::source_widths, crate::specs::Calls::unsized_width))]
+fn triples_at(rt: &impl Abort, width: Width) {
+    let ones = word(width, u64::MAX).bits;
+    let mut made = triple(width, 1);
+    eval_view(
+        Op::Vec3,
+        width,
+        &[
+            single(width, u64::MAX),
+            single(width, u64::MAX),
+            single(width, 0),
+        ],
+        &mut made,
+    );
+    assert!(rt; made.comps.as_slice() == [ones, ones, 0].as_slice());
+    let mut bit = single(W1, 0);
+    eval_view(
+        Op::BallIequal3,
+        W1,
+        &[triple(width, 0), triple(width, 0)],
+        &mut bit,
+    );
+    assert!(rt; bit.comps.as_slice() == [1].as_slice());
+    eval_view(
+        Op::BallIequal3,
+        W1,
+        &[triple(width, 0), triple(width, 1)],
+        &mut bit,
+    );
+    assert!(rt; bit.comps.as_slice() == [0].as_slice());
+    eval_view(
+        Op::BanyInequal3,
+        W1,
+        &[triple(width, 0), triple(width, 0)],
+        &mut bit,
+    );
+    assert!(rt; bit.comps.as_slice() == [0].as_slice());
+    eval_view(
+        Op::BanyInequal3,
+        W1,
+        &[triple(width, 0), triple(width, 1)],
+        &mut bit,
+    );
+    assert!(rt; bit.comps.as_slice() == [1].as_slice());
+}
+
+/// The same with lists of four.
+#[tactic(auto, unfolding(nir_ops::specs::Opcodes::op_allows, nir_ops::specs::Opcodes::op_info, nir_ops::specs::Opcodes::row_of, crate::specs::Calls::result_width, crate::specs::Calls::source_widths, crate::specs::Calls::unsized_width))]
+fn quads_at(rt: &impl Abort, width: Width) {
+    let ones = word(width, u64::MAX).bits;
+    let mut made = quad(width, 1);
+    eval_view(
+        Op::Vec4,
+        width,
+        &[
+            single(width, u64::MAX),
+            single(width, u64::MAX),
+            single(width, u64::MAX),
+            single(width, 0),
+        ],
+        &mut made,
+    );
+    assert!(rt; made.comps.as_slice() == [ones, ones, ones, 0].as_slice());
+    let mut bit = single(W1, 0);
+    eval_view(
+        Op::BallIequal4,
+        W1,
+        &[quad(width, 0), quad(width, 0)],
+        &mut bit,
+    );
+    assert!(rt; bit.comps.as_slice() == [1].as_slice());
+    eval_view(
+        Op::BallIequal4,
+        W1,
+        &[quad(width, 0), quad(width, 1)],
+        &mut bit,
+    );
+    assert!(rt; bit.comps.as_slice() == [0].as_slice());
+    eval_view(
+        Op::BanyInequal4,
+        W1,
+        &[quad(width, 0), quad(width, 0)],
+        &mut bit,
+    );
+    assert!(rt; bit.comps.as_slice() == [0].as_slice());
+    eval_view(
+        Op::BanyInequal4,
+        W1,
+        &[quad(width, 0), quad(width, 1)],
+        &mut bit,
+    );
+    assert!(rt; bit.comps.as_slice() == [1].as_slice());
+}
+
+/// A list of one component of this bit size.
 #[tactic(auto, using(crate::proofs::ViewLemmas::one_small))]
-fn one(first: u8) -> View
-    ensures width { result.width ≡ W8 }
-    ensures comps { result.comps ≡ first ∷ [] }
+fn single(width: Width, last: u64) -> View
+    ensures width { result.width ≡ width }
+    ensures count { length result.comps ≡ 1 }
 {
     let mut comps = Components::new();
-    comps.push(u64::from(first));
-    View { width: W8, comps }
+    comps.push(word(width, last).bits);
+    View { width, comps }
 }
 
-/// A view of two components of 8 bits.
+/// A list of two components of this bit size, the first of all ones.
 #[tactic(auto, using(crate::proofs::ViewLemmas::two_small))]
-fn two(first: u8, second: u8) -> View
-    ensures width { result.width ≡ W8 }
-    ensures comps { result.comps ≡ first ∷ second ∷ [] }
+fn pair(width: Width, last: u64) -> View
+    ensures width { result.width ≡ width }
+    ensures count { length result.comps ≡ 2 }
 {
     let mut comps = Components::new();
-    comps.push(u64::from(first));
-    comps.push(u64::from(second));
-    View { width: W8, comps }
+    comps.push(word(width, u64::MAX).bits);
+    comps.push(word(width, last).bits);
+    View { width, comps }
+}
+
+/// A list of three components of this bit size, all but the last of all ones.
+#[tactic(auto, using(crate::proofs::ViewLemmas::three_small))]
+fn triple(width: Width, last: u64) -> View
+    ensures width { result.width ≡ width }
+    ensures count { length result.comps ≡ 3 }
+{
+    let mut comps = Components::new();
+    comps.push(word(width, u64::MAX).bits);
+    comps.push(word(width, u64::MAX).bits);
+    comps.push(word(width, last).bits);
+    View { width, comps }
+}
+
+/// A list of four components of this bit size, all but the last of all ones.
+#[tactic(auto, using(crate::proofs::ViewLemmas::four_small))]
+fn quad(width: Width, last: u64) -> View
+    ensures width { result.width ≡ width }
+    ensures count { length result.comps ≡ 4 }
+{
+    let mut comps = Components::new();
+    comps.push(word(width, u64::MAX).bits);
+    comps.push(word(width, u64::MAX).bits);
+    comps.push(word(width, u64::MAX).bits);
+    comps.push(word(width, last).bits);
+    View { width, comps }
 }
 
 /// The bit size of a source, at an unsized bit size.
@@ -98,7 +259,9 @@ fn sized(size: Option<Width>, width: Width) -> Width
 }
 
 /// A word of this bit size, of the lowest of these bits.
-fn word(width: Width, bits: u64) -> Word {
+fn word(width: Width, bits: u64) -> Word
+    ensures { result.width ≡ width }
+{
     match width {
         W1 => Word {
             width,
