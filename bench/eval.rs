@@ -9,11 +9,12 @@ const PAIRS: u32 = 0x100_0000;
 fn main() -> ExitCode {
     for name in env::args().skip(1) {
         let sum = match name.as_str() {
-            "iadd" => sum_of_iadd(),
-            "imul" => sum_of_imul(),
-            "idiv" => sum_of_idiv(),
-            "urol" => sum_of_urol(),
-            "bit_count" => sum_of_bit_count(),
+            "iadd" => sum_over_pairs(u32::wrapping_add),
+            "imul" => sum_over_pairs(u32::wrapping_mul),
+            "idiv" => sum_over_pairs(idiv),
+            // rotate_left takes the count modulo 32.
+            "urol" => sum_over_pairs(u32::rotate_left),
+            "bit_count" => sum_over_pairs(|x, _| x.count_ones()),
             _ => return ExitCode::from(2),
         };
         println!("{sum}");
@@ -36,32 +37,13 @@ fn low(state: u64) -> u32 {
     state as u32
 }
 
-fn sum_of_iadd() -> u64 {
+/// The sum of what an operation makes of each pair. It is compiled anew for each operation.
+fn sum_over_pairs(made: impl Fn(u32, u32) -> u32) -> u64 {
     let mut state = 1;
     let mut sum = 0u64;
     for _ in 0..PAIRS {
         state = next(state);
-        sum = sum.wrapping_add(u64::from(high(state).wrapping_add(low(state))));
-    }
-    sum
-}
-
-fn sum_of_imul() -> u64 {
-    let mut state = 1;
-    let mut sum = 0u64;
-    for _ in 0..PAIRS {
-        state = next(state);
-        sum = sum.wrapping_add(u64::from(high(state).wrapping_mul(low(state))));
-    }
-    sum
-}
-
-fn sum_of_idiv() -> u64 {
-    let mut state = 1;
-    let mut sum = 0u64;
-    for _ in 0..PAIRS {
-        state = next(state);
-        sum = sum.wrapping_add(u64::from(idiv(high(state), low(state))));
+        sum = sum.wrapping_add(u64::from(made(high(state), low(state))));
     }
     sum
 }
@@ -74,25 +56,4 @@ fn idiv(x: u32, y: u32) -> u32 {
     x.cast_signed()
         .wrapping_div(y.cast_signed())
         .cast_unsigned()
-}
-
-fn sum_of_urol() -> u64 {
-    let mut state = 1;
-    let mut sum = 0u64;
-    for _ in 0..PAIRS {
-        state = next(state);
-        // rotate_left takes the count modulo 32.
-        sum = sum.wrapping_add(u64::from(high(state).rotate_left(low(state))));
-    }
-    sum
-}
-
-fn sum_of_bit_count() -> u64 {
-    let mut state = 1;
-    let mut sum = 0u64;
-    for _ in 0..PAIRS {
-        state = next(state);
-        sum = sum.wrapping_add(u64::from(high(state).count_ones()));
-    }
-    sum
 }
