@@ -1,4 +1,5 @@
 pub mod Classes
+pub mod Kinds
 pub mod Numbers
 pub mod Pieces
 pub mod Reading

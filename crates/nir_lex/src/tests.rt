@@ -73,6 +73,19 @@ fn faults(rt: HostRuntime) {
     }
 }
 
+#[test]
+fn printed_faults(rt: HostRuntime) -> Result<(), Fail> {
+    for (fault, words) in [
+        (LexFault::BadByte(7), "byte 7: bad byte"),
+        (LexFault::BadNumber(0), "byte 0: bad number"),
+        (LexFault::OutOfMemory, "out of memory"),
+    ] {
+        let said = format!(in rt.alloc(); "{fault}")?;
+        assert_eq!(rt; said.as_str(), words);
+    }
+    Ok(())
+}
+
 // A comment ends at the line feed alone, and names, words and numbers go on as far as they can.
 #[test]
 fn whole_texts(rt: HostRuntime) -> Result<(), Fail> {

@@ -19,6 +19,39 @@ pub enum TokenKind {
     End,
 }
 
+impl TokenKind {
+    ghost use Rattle.std.specs.Prelude.{◌≡◌};
+    ghost use Rattle.nir_lex.specs.Kinds.{is_mark, is_end};
+
+    /// Whether it is this mark of punctuation.
+    pub fn is_mark(self, mark: u8) -> bool
+        ensures { result ≡ is_mark mark self }
+    {
+        match self {
+            TokenKind::Punct { byte } => byte == mark,
+            TokenKind::Word
+            | TokenKind::Number { .. }
+            | TokenKind::Name
+            | TokenKind::Quoted
+            | TokenKind::End => false,
+        }
+    }
+
+    /// Whether it is the end of the text.
+    pub fn is_end(self) -> bool
+        ensures { result ≡ is_end self }
+    {
+        match self {
+            TokenKind::End => true,
+            TokenKind::Word
+            | TokenKind::Number { .. }
+            | TokenKind::Name
+            | TokenKind::Quoted
+            | TokenKind::Punct { .. } => false,
+        }
+    }
+}
+
 /// A token, and where it stands: the places of its first byte and behind its last, in bytes from
 /// the start of the text.
 #[derive(Clone, Copy, Debug, PartialEq, Eq)]

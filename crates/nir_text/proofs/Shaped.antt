@@ -5,9 +5,10 @@ use Rattle.nir_ir.specs.declared.kind.Kind.{Kind}
 use Rattle.nir_ir.specs.Items.{items, values_defined, values_used, blocks_defined, blocks_named, effects_defined, ifs_defined, loops_defined}
 use Rattle.nir_ir.specs.Shader.{Shader}
 use Rattle.nir_ir.specs.Shaped.{IsOneOf, IsCount, IsShaped}
+use Rattle.nir_lex.specs.Kinds.{is_end}
 use Rattle.nir_text.specs.declared.counts.Counts as counts
 use Rattle.nir_text.specs.declared.fault.TextFault.TheVariants.{Expected, TooMany}
-use Rattle.nir_text.specs.Signs.{Sign, number_of_kind, kind_is_end}
+use Rattle.nir_text.specs.Signs.{Sign, number_of_kind}
 use Rattle.nir_text.specs.Naming.{Naming, naming_of, first_unknown}
 use Rattle.nir_text.specs.Reading.{Point, here, next, word_at, kind_at, bracketed_at}
 use Rattle.nir_text.specs.Tree.{list_at, declared_kind_at, buffers_of, buffers_at, end_at, shader_at, no_counts, all_known, read_signs}
@@ -46,7 +47,7 @@ module _ (names : Naming) (total : counts.Counts) where
 
   end_ok : (p q : Point) → end_at p ≡ Ok q → p ≡ q
   unfolding end_at
-  end_ok p q e = ok_is p q (held (kind_is_end (here p).kind) (Expected (here p).place) (Ok p) q e).1
+  end_ok p q e = ok_is p q (held (is_end (here p).kind) (Expected (here p).place) (Ok p) q e).1
 
   shader_read : AllByRecursion IsCount names.counts → (p : Point) (x : Shader × Point) → Stands names total p.rest → shader_at names p ≡ Ok x → ReadsShader names total p x
   unfolding shader_at buffers_at

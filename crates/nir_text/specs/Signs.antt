@@ -1,9 +1,10 @@
 -- The tokens of a text as its grammar sees them: what each is, its bytes, and where it stands.
-use Rattle.std.specs.Prelude.{ℕ, Bool, false, true, ◌&&◌, ◌==◌, List, [], ◌∷◌, map, ℤ, Option, Some, None, slice_range}
+use Rattle.std.specs.Prelude.{ℕ, Bool, false, true, ◌&&◌, List, [], ◌∷◌, map, ℤ, Option, Some, None, slice_range}
 use Rattle.std.specs.Str.{bytes_eq}
 use Rattle.nir_lex.specs.declared.token.Token.{Token}
 use Rattle.nir_lex.specs.declared.token.TokenKind.{TokenKind}
 use Rattle.nir_lex.specs.declared.token.TokenKind.TheVariants.{Word, Number, Name, Quoted, Punct, End}
+use Rattle.nir_lex.specs.Kinds as token_kind
 
 pub record Sign : Type 0 where
   pub kind : TokenKind
@@ -51,25 +52,8 @@ number_of_kind (Punct byte) = None
 number_of_kind End = None
 
 -- whether it is this mark of punctuation
-abbrev pub kind_is_mark : ℕ → TokenKind → Bool
-kind_is_mark mark Word = false
-kind_is_mark mark (Number value) = false
-kind_is_mark mark Name = false
-kind_is_mark mark Quoted = false
-kind_is_mark mark (Punct byte) = byte == mark
-kind_is_mark mark End = false
-
 abbrev pub is_mark : ℕ → Sign → Bool
-is_mark mark sign = kind_is_mark mark sign.kind
-
--- whether it is the end of the text
-abbrev pub kind_is_end : TokenKind → Bool
-kind_is_end Word = false
-kind_is_end (Number value) = false
-kind_is_end Name = false
-kind_is_end Quoted = false
-kind_is_end (Punct byte) = false
-kind_is_end End = true
+is_mark mark sign = token_kind.is_mark mark sign.kind
 
 -- whether it is a name
 abbrev pub kind_is_name : TokenKind → Bool

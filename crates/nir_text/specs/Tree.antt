@@ -2,6 +2,7 @@
 use Rattle.std.specs.Prelude.{◌≡◌, ℕ, zero, suc, ◌+◌, List, length, drop, ℤ, pos, negsuc, Option, Some, None, Result, Ok, Err, nat_lt, codes, if◌then◌else◌}
 use Rattle.nir_lex.specs.declared.fault.LexFault.{LexFault}
 use Rattle.nir_lex.specs.declared.token.Token.{Token}
+use Rattle.nir_lex.specs.Kinds.{is_end}
 use Rattle.nir_lex.specs.Reading.{read_tokens}
 use Rattle.nir_ir.specs.declared.kind.Kind.{Kind}
 use Rattle.nir_ir.specs.declared.node.Block as block
@@ -10,7 +11,7 @@ use Rattle.nir_ir.specs.Shader.{Shader}
 use Rattle.nir_text.specs.declared.counts.Counts.{Counts}
 use Rattle.nir_text.specs.declared.fault.TextFault.{TextFault}
 use Rattle.nir_text.specs.declared.fault.TextFault.TheVariants.{Lex, Expected, UnknownName, TooDeep, TooMany}
-use Rattle.nir_text.specs.Signs.{Sign, signs_of, number_of_kind, kind_is_end, is_mark, is_word}
+use Rattle.nir_text.specs.Signs.{Sign, signs_of, number_of_kind, is_mark, is_word}
 use Rattle.nir_text.specs.Naming.{Naming, naming_of, first_unknown}
 use Rattle.nir_text.specs.Reading.{Point, here, next, ◌>>=◌, mark_at, word_at, kind_at, value_used_at, block_defined_at, bracketed_at}
 use Rattle.nir_text.specs.Instrs.{instrs_at, phis_at, jump_at}
@@ -93,7 +94,7 @@ unfoldable pub buffers_at : Point → Result (ℕ × Point) TextFault
 buffers_at p = buffers_of (number_of_kind (here p).kind) p
 
 unfoldable pub end_at : Point → Result Point TextFault
-end_at p = if kind_is_end (here p).kind then Ok p else Err (Expected (here p).place)
+end_at p = if is_end (here p).kind then Ok p else Err (Expected (here p).place)
 
 -- a shader, to the end of its text
 unfoldable pub shader_at : Naming → Point → Result (Shader × Point) TextFault

@@ -2,7 +2,8 @@
 
 ghost use Rattle.std.specs.Prelude.{◌≡◌, ◌≤◌, length};
 ghost use Rattle.std.specs.Option.{option_copied};
-ghost use Rattle.nir_text.specs.Signs.{sign_of, word_of, name_of, is_mark, is_word, kind_is_name, kind_is_end, first_of, signs_of};
+ghost use Rattle.nir_lex.specs.Kinds.{is_end};
+ghost use Rattle.nir_text.specs.Signs.{sign_of, word_of, name_of, is_mark, is_word, kind_is_name, first_of, signs_of};
 ghost use Rattle.nir_text.specs.View.{sign};
 ghost use Rattle.nir_text.specs.Within.{IsWithin, AreWithin};
 
@@ -47,14 +48,7 @@ impl<'a> Sign<'a> {
     pub fn is_mark(&self, mark: u8) -> bool
         ensures { result ≡ is_mark mark (sign self.now) }
     {
-        match self.kind {
-            TokenKind::Punct { byte } => byte == mark,
-            TokenKind::Word
-            | TokenKind::Number { .. }
-            | TokenKind::Name
-            | TokenKind::Quoted
-            | TokenKind::End => false,
-        }
+        self.kind.is_mark(mark)
     }
 
     pub fn is_word(&self, word: &[u8]) -> bool
@@ -112,15 +106,8 @@ impl<'a> Sign<'a> {
     }
 
     pub fn is_end(&self) -> bool
-        ensures { result ≡ kind_is_end (sign self.now).kind }
+        ensures { result ≡ is_end (sign self.now).kind }
     {
-        match self.kind {
-            TokenKind::End => true,
-            TokenKind::Punct { .. }
-            | TokenKind::Number { .. }
-            | TokenKind::Word
-            | TokenKind::Quoted
-            | TokenKind::Name => false,
-        }
+        self.kind.is_end()
     }
 }
