@@ -1,8 +1,12 @@
 -- What defines the values of a shader, as in static single assignment form: each value has one phi or one instruction.
-use Rattle.std.specs.Prelude.{List, [], ◌∷◌, Option, Some, None, Bool, nat_eq}
-use Rattle.std.specs.Option.{option_to_list}
+use Rattle.std.specs.Prelude.{ℕ, List, [], ◌∷◌, Option, Some, None, Bool, nat_eq, count_by}
+use Rattle.std.specs.Option.{option_and_then, option_map, option_map_or, option_or, option_to_list}
 use Rattle.std.specs.List.{flat_map, find, list_any}
+use Rattle.nir_ops.specs.declared.op.Op.{Op}
+use Rattle.nir_ops.specs.declared.width.Width.{Width}
+use Rattle.nir_ops.specs.declared.width.Width.TheVariants.{W1}
 use Rattle.nir_ir.specs.declared.ids.ValueId.{ValueId}
+use Rattle.nir_ir.specs.declared.instr.Src.{Src}
 use Rattle.nir_ir.specs.declared.instr.Instr.{Instr}
 use Rattle.nir_ir.specs.declared.instr.Instr.TheVariants.{Alu, Const, Undef, Input, Output, LoadBuf, StoreBuf}
 use Rattle.nir_ir.specs.declared.kind.Kind.{Kind}
@@ -48,6 +52,10 @@ phi_defining value nodes = find (is_phi_of value) (phis nodes)
 abbrev pub instr_defining : ValueId → Nodes → Option Instr
 instr_defining value nodes = find (is_target value) (instrs nodes)
 
+-- how many instructions define the value
+abbrev pub definition_count : ValueId → Nodes → ℕ
+definition_count value nodes = count_by (is_target value) (instrs nodes)
+
 -- the kind of the value that an instruction defines
 abbrev pub kind_of_target : Instr → Option Kind
 kind_of_target (Alu value op kind srcs) = Some kind
@@ -69,3 +77,36 @@ kinds_of (LoopHead id) = []
 -- the kinds of the values that a list defines, place by place those of `values_defined`
 abbrev pub kinds_defined : Nodes → List Kind
 kinds_defined nodes = flat_map kinds_of (items nodes)
+
+-- the opcode and the sources of the instruction that writes the value, where it is one with an opcode
+abbrev pub alu_of : Instr → Option (Op × List Src)
+alu_of (Alu value op kind srcs) = Some (op, srcs)
+alu_of (Const value kind comps) = None
+alu_of (Undef value kind) = None
+alu_of (Input value kind slot) = None
+alu_of (Output effect slot src) = None
+alu_of (LoadBuf value kind buffer offset) = None
+alu_of (StoreBuf effect buffer offset src) = None
+
+-- the components of a const
+abbrev pub const_of : Instr → Option (List ℕ)
+const_of (Alu value op kind srcs) = None
+const_of (Const value kind comps) = Some comps
+const_of (Undef value kind) = None
+const_of (Input value kind slot) = None
+const_of (Output effect slot src) = None
+const_of (LoadBuf value kind buffer offset) = None
+const_of (StoreBuf effect buffer offset src) = None
+
+abbrev pub alu_at : Nodes → ValueId → Option (Op × List Src)
+alu_at body value = option_and_then alu_of (instr_defining value body)
+
+abbrev pub const_at : Nodes → ValueId → Option (List ℕ)
+const_at body value = option_and_then const_of (instr_defining value body)
+
+-- the kind of a value: that of the instruction or phi that defines it
+abbrev pub kind_at : Nodes → ValueId → Option Kind
+kind_at body value = option_or (option_and_then kind_of_target (instr_defining value body)) (option_map (λ phi. phi.kind) (phi_defining value body))
+
+abbrev pub width_at : Nodes → ValueId → Width
+width_at body value = option_map_or (λ kind. kind.width) (kind_at body value) W1

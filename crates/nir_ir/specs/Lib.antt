@@ -1,6 +1,10 @@
 pub mod Definitions
+pub mod Edits
+pub mod EditsShaped
+pub mod Found
 pub mod Items
 pub mod Nodes
 pub mod Shaped
 pub mod Shader
 pub mod Splits
+pub mod Uses

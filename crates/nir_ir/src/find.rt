@@ -49,7 +49,7 @@ impl Shader {
 }
 
 /// Whether the instruction defines the value.
-fn is_target(value: ValueId, instr: &Instr) -> bool
+pub(crate) fn is_target(value: ValueId, instr: &Instr) -> bool
     ensures { result ≡ is_target value instr.now }
 {
     match instr.target() {

@@ -1,6 +1,7 @@
 //! Shaders: declarations, and a tree of lists of blocks, ifs and loops.
 #![tactic(auto)]
 
+mod edit;
 mod find;
 mod ids;
 mod instr;
@@ -11,6 +12,7 @@ mod node;
 mod shader;
 #[cfg(test)]
 mod tests;
+mod uses;
 
 pub use ids::{BlockId, EffectId, IfId, LoopId, ValueId};
 pub use instr::{Instr, Src};

@@ -2,7 +2,9 @@
 
 ghost use Rattle.std.specs.Prelude.{◌<◌};
 
+use crate::edit::set_in_list;
 use crate::find::{instr_in_list, phi_in_list};
+use crate::uses::without_list;
 use crate::{
     Block, BlockId, Comps, IfId, Instr, Kind, List, LoopId, Node, Phi, PhiSource, Shader, Src,
     Srcs, Swizzle, ValueId,
@@ -89,6 +91,60 @@ fn each_value_is_found_in_its_place(rt: HostRuntime) -> Result<(), Fail> {
     Ok(())
 }
 
+#[test]
+fn each_source_and_condition_is_counted(rt: HostRuntime) -> Result<(), Fail> {
+    let list = tree(rt.alloc())?;
+    for (value, uses) in [
+        (0, 2),
+        (1, 0),
+        (2, 1),
+        (4, 1),
+        (5, 0),
+        (6, 1),
+        (8, 1),
+        (9, 0),
+    ] {
+        for left in 0..4u64 {
+            let after = without_list(list.as_slice(), ValueId(value), left);
+            assert_eq!(rt;
+                after,
+                left.saturating_sub(uses),
+                "uses of {value} of {left}"
+            );
+        }
+    }
+    Ok(())
+}
+
+/// Whether the instruction of a value is an input.
+fn is_input(list: &List, value: u32) -> bool {
+    match instr_in_list(list.as_slice(), ValueId(value)) {
+        Some(Instr::Input { .. }) => true,
+        Some(_) => false,
+        None => false,
+    }
+}
+
+#[test]
+fn an_instruction_takes_the_place_of_one_and_no_other(rt: HostRuntime) -> Result<(), Fail> {
+    for value in 0..11 {
+        let mut list = tree(rt.alloc())?;
+        let input = Instr::Input {
+            value: ValueId(value),
+            kind: WORD,
+            slot: 0,
+        };
+        let left = set_in_list(&mut list, ValueId(value), input);
+        let is_instr = value < 10 && value % 2 == 1;
+        assert_eq!(rt; left.is_none(), is_instr, "place of {value}");
+        for other in 0..11 {
+            let is_new = is_instr && other == value;
+            assert_eq!(rt; is_input(&list, other), is_new, "{other} after {value}");
+        }
+    }
+    Ok(())
+}
+
 /// A shader without nodes.
 fn empty(alloc: Global) -> Shader {
     Shader {
@@ -105,6 +161,8 @@ fn nothing_is_defined_in_an_empty_shader(rt: HostRuntime) {
     let shader = empty(rt.alloc());
     assert!(rt; shader.instr(ValueId(0)).is_none());
     assert!(rt; shader.phi(ValueId(0)).is_none());
+    assert_eq!(rt; shader.uses(ValueId(0), 9), 0);
+    assert!(rt; !shader.is_used_once(ValueId(0)));
 }
 
 #[test]

@@ -1,0 +1,31 @@
+-- Edits of the tree of a shader: instructions put in the place of the one that defines a value.
+use Rattle.std.specs.Prelude.{◌≡◌, ℕ, ◌<◌, ◌≤◌, List, [], ◌∷◌, length, Option, cond, true}
+use Rattle.std.specs.Option.{MatchOption}
+use Rattle.std.specs.List.{flat_map, HoldsAt}
+use Rattle.nir_ir.specs.declared.ids.ValueId.{ValueId}
+use Rattle.nir_ir.specs.declared.instr.Instr.{Instr}
+use Rattle.nir_ir.specs.declared.node.Block.{Block}
+use Rattle.nir_ir.specs.Nodes.{Nodes, Nil, BlockThen, IfThen, LoopThen}
+use Rattle.nir_ir.specs.Definitions.{is_target}
+
+-- what stands in the place of an instruction: the new ones where it defines the value
+abbrev pub in_place_of : ValueId → List Instr → Instr → List Instr
+in_place_of value news instr = cond (is_target value instr) news (instr ∷ [])
+
+abbrev pub replaced_in_block : ValueId → List Instr → Block → Block
+replaced_in_block value news b = record b { instrs = flat_map (in_place_of value news) b.instrs }
+
+-- the new instructions in the place of each that defines the value
+abbrev pub replaced : ValueId → List Instr → Nodes → Nodes
+replaced value news Nil = Nil
+replaced value news (BlockThen b rest) = BlockThen (replaced_in_block value news b) (replaced value news rest)
+replaced value news (IfThen id condition first second rest) = IfThen id condition (replaced value news first) (replaced value news second) (replaced value news rest)
+replaced value news (LoopThen id body rest) = LoopThen id (replaced value news body) (replaced value news rest)
+
+-- the instruction at the place defines the value
+abbrev pub IsPlaceOf : ValueId → List Instr → ℕ → Type 0
+IsPlaceOf value list at = (at < length list) × HoldsAt (λ instr. is_target value instr ≡ true) list at
+
+-- what is left of an instruction that was to take the place of one of so many: nothing, or itself where there was none and all was kept
+abbrev pub IsLeftOver : Option Instr → Instr → ℕ → Type 0 → Type 0
+IsLeftOver left instr count kept = MatchOption left (1 ≤ count) (λ same. (same ≡ instr) × (count ≡ 0) × kept)
