@@ -26,6 +26,7 @@ mod whole_list;
 mod word;
 
 pub use component::eval;
+pub use shape::{Shape, shape_on_lists};
 pub use view::{Components, View};
 pub use whole_list::eval_view;
 pub use word::Word;

@@ -1,0 +1,11 @@
+pub mod BuildLemmas
+pub mod EightLemmas
+pub mod FormedLemmas
+pub mod LiteralLemmas
+pub mod NodesLemmas
+pub mod OpcodeLemmas
+pub mod PlaceLemmas
+pub mod ReadyLemmas
+pub mod SideLemmas
+pub mod SizeLemmas
+pub mod SourcesLemmas

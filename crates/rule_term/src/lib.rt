@@ -1,0 +1,26 @@
+//! Rules on terms of opcodes, and tables of rules that hold.
+#![tactic(auto)]
+
+mod cond;
+mod eight;
+mod formed;
+mod nodes;
+mod rule;
+mod side;
+mod table;
+mod term;
+#[cfg(test)]
+mod tests;
+mod typing;
+mod value;
+mod when;
+
+pub use cond::{Cond, cond_holds};
+pub use formed::formed_is_tested;
+pub use rule::Rule;
+pub use side::{Side, eval_term};
+pub use table::Table;
+pub use term::{Term, Terms};
+pub use typing::{Typing, Widths};
+pub use value::reduced;
+pub use when::{Names, Options, When};
