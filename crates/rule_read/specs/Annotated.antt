@@ -1,0 +1,85 @@
+-- The texts that stand for variables and opcodes: a word, or in quotes a name with what is asked of it, [#]NAME[@SIZE][(CONDITION)], as in Mesa's nir_opt_algebraic.py.
+use Rattle.std.specs.Prelude.{ℕ, ◌-◌, Bool, true, false, not, ◌||◌, ◌==◌, List, [], ◌∷◌, length, take, drop, Option, Some, None, codes, find, if◌then◌else◌}
+use Rattle.std.specs.List.{prefix_len}
+use Rattle.std.specs.Option.{option_map}
+use Rattle.std.specs.Str.{bytes_eq}
+use Rattle.nir_lex.specs.Classes.{begins, is_word}
+use Rattle.nir_ops.specs.declared.width.Width.{Width}
+use Rattle.nir_ops.specs.declared.width.Width.TheVariants.{W1, W8, W16, W32, W64}
+use Rattle.rule_term.specs.declared.cond.Cond.{Cond}
+use Rattle.rule_term.specs.declared.cond.Cond.TheVariants.{PosPow2, NegPow2, MultipleOf4, UpperHalfZero, LowerHalfZero, NotConst, UsedOnce}
+
+-- a name with what is asked of it
+pub record Annotated : Type 0 where
+  pub constant : Bool
+  pub name : List ℕ
+  pub size : Option Width
+  pub cond : Option Cond
+
+abbrev pub plain : List ℕ → Annotated
+plain name = record { constant = false; name = name; size = None; cond = None }
+
+-- what is written for a size, or for none
+pub record SizeText : Type 0 where
+  pub text : List ℕ
+  pub size : Option Width
+
+abbrev pub size_texts : List SizeText
+size_texts =
+    record { text = codes ""; size = None } ∷
+    record { text = codes "@1"; size = Some W1 } ∷
+    record { text = codes "@8"; size = Some W8 } ∷
+    record { text = codes "@16"; size = Some W16 } ∷
+    record { text = codes "@32"; size = Some W32 } ∷
+    record { text = codes "@64"; size = Some W64 } ∷ []
+
+unfoldable pub size_written : List ℕ → Option (Option Width)
+size_written text = option_map (λ entry. entry.size) (find (λ entry. bytes_eq entry.text text) size_texts)
+
+-- what is written for a condition, or for none
+pub record CondText : Type 0 where
+  pub text : List ℕ
+  pub cond : Option Cond
+
+abbrev pub cond_texts : List CondText
+cond_texts =
+    record { text = codes ""; cond = None } ∷
+    record { text = codes "(is_pos_power_of_two)"; cond = Some PosPow2 } ∷
+    record { text = codes "(is_neg_power_of_two)"; cond = Some NegPow2 } ∷
+    record { text = codes "(is_unsigned_multiple_of_4)"; cond = Some MultipleOf4 } ∷
+    record { text = codes "(is_upper_half_zero)"; cond = Some UpperHalfZero } ∷
+    record { text = codes "(is_lower_half_zero)"; cond = Some LowerHalfZero } ∷
+    record { text = codes "(is_not_const)"; cond = Some NotConst } ∷
+    record { text = codes "(is_used_once)"; cond = Some UsedOnce } ∷ []
+
+unfoldable pub cond_written : List ℕ → Option (Option Cond)
+cond_written text = option_map (λ entry. entry.cond) (find (λ entry. bytes_eq entry.text text) cond_texts)
+
+-- a name ends before `@` or `(`, and a size before `(`
+abbrev pub is_before_cond : ℕ → Bool
+is_before_cond byte = not (byte == 40)
+
+abbrev pub is_before_size : ℕ → Bool
+is_before_size byte = not (byte == 64 || byte == 40)
+
+-- the parts, where each of them is one
+abbrev pub assembled : Bool → List ℕ → Option (Option Width) → Option (Option Cond) → Option Annotated
+assembled constant name None cond = None
+assembled constant name (Some size) None = None
+assembled constant name (Some size) (Some cond) = if is_word name then Some (record { constant = constant; name = name; size = size; cond = cond }) else None
+
+-- a name, a size and a condition
+unfoldable pub name_and_rest : Bool → List ℕ → Option Annotated
+name_and_rest constant text =
+    let name = prefix_len is_before_size text in
+    let tail = drop name text in
+    let size = prefix_len is_before_cond tail in
+    assembled constant (take name text) (size_written (take size tail)) (cond_written (drop size tail))
+
+-- without the quotes
+abbrev pub unquoted : List ℕ → List ℕ
+unquoted text = take (length (drop 1 text) - 1) (drop 1 text)
+
+-- `#` asks for a constant
+unfoldable pub quoted_annotated : List ℕ → Option Annotated
+quoted_annotated text = if begins (λ byte. byte == 35) text then name_and_rest true (drop 1 text) else name_and_rest false text
