@@ -1,0 +1,4 @@
+pub mod Refusals
+pub mod TestRules
+pub mod Trials
+pub mod Walks

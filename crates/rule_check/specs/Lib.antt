@@ -1,0 +1,5 @@
+pub mod Accepted
+pub mod Cases
+pub mod CasesLaws
+pub mod Verdicts
+pub mod VerdictsLaws
