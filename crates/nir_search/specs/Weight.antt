@@ -1,17 +1,12 @@
 -- The weight of a shader: how many ALU instructions it has other than mov, each of weight 1.
-use Rattle.std.specs.Prelude.{ℕ, Bool, true, false, length, sum_by, cond}
+use Rattle.std.specs.Prelude.{ℕ, length, sum_by, cond}
 use Rattle.std.specs.Option.{option_to_list}
-use Rattle.nir_ops.specs.declared.op.Op.{Op}
-use Rattle.nir_ops.specs.declared.op.Op.TheVariants.{Mov}
 use Rattle.nir_ir.specs.declared.instr.Instr.{Instr}
 use Rattle.nir_ir.specs.declared.instr.Instr.TheVariants.{Alu, Const, Undef, Input, Output, LoadBuf, StoreBuf}
 use Rattle.nir_ir.specs.Items.{target}
 use Rattle.nir_ir.specs.Definitions.{instrs}
 use Rattle.nir_ir.specs.Shader.{Shader}
-
-abbrev pub is_mov : Op → Bool
-is_mov Mov = true
-is_mov _ = false
+use Rattle.rule_term.specs.Formed.{is_mov}
 
 abbrev pub instr_weight : Instr → ℕ
 instr_weight (Alu value op kind srcs) = cond (is_mov op) 0 1

@@ -1,7 +1,8 @@
 //! How much the instructions of a list weigh.
 
 ghost use Rattle.std.specs.Prelude.{◌≡◌, ◌≤◌, length, sum_by};
-ghost use Rattle.nir_search.specs.Weight.{is_mov, instr_weight, value_count};
+ghost use Rattle.rule_term.specs.Formed.{is_mov};
+ghost use Rattle.nir_search.specs.Weight.{instr_weight, value_count};
 
 use nir_ir::Instr;
 use nir_ops::Op;

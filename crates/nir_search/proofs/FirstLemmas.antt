@@ -1,0 +1,125 @@
+-- What a walk along the search side of a rule at 8 bits says of a match.
+use Rattle.std.specs.Prelude.{◌≡◌, refl, ◌+◌, ◌<◌, ◌-◌, ℕ, zero, suc, List, [], ◌∷◌, Option, Some, None, Bool, true, false, ◌&&◌, length, replicate, slice_get, if◌then◌else◌}
+use Rattle.std.proofs.Common.{sym, ◌∙◌, ap, subst, drop, get_or, arith}
+use Rattle.std.proofs.lemmas.Bool.{true≢false}
+use Rattle.std.proofs.lemmas.Option.{none-some, same_Some}
+use Rattle.std.specs.List.{list_all, range_with_len}
+use Rattle.std.specs.Option.{option_map, option_or}
+use Rattle.nir_ir.specs.declared.ids.ValueId.{ValueId}
+use Rattle.nir_ir.specs.Nodes.{Nodes}
+use Rattle.rule_term.specs.declared.term.Term.{Term}
+use Rattle.rule_term.specs.Lists as lists
+use Rattle.rule_term.specs.Terms.{Terms, Nil, VarThen, LitThen, AppThen, terms_of}
+use Rattle.rule_term.specs.Rule.{Rule}
+use Rattle.rule_term.specs.Formed.{IsFormed}
+use Rattle.rule_term.specs.EightBit.{is_eight_bit}
+use Rattle.nir_search.specs.declared.hit.Bind.{Bind}
+use Rattle.nir_search.specs.declared.matching.Walked.{Walked}
+use Rattle.nir_search.specs.Match.{all_bound, commutes, is_typed, match_of, met, root_view}
+use Rattle.rule_term.specs.declared.when.Options.{Options}
+use Rattle.nir_search.specs.declared.hit.Hit.{Hit}
+use Rattle.nir_search.specs.First.{first_variant, hit_of, first_from}
+use Rattle.nir_search.specs.Met.{length-met, is_typed_eight}
+use Rattle.nir_search.specs.Walks.{Walks}
+
+-- what is found where a walk ended so
+abbrev pub found_by : Option Walked → List (Option Bind) → Option (List Bind)
+found_by None bound = None
+found_by (Some walked) bound = if walked.eight then Some (all_bound bound) else None
+
+none_either : {A : Type 0} (b : Bool) → ◌≡◌ {A = Option A} (if b then None else None) None
+none_either true = refl
+none_either false = refl
+
+-- the same walk from what is the same
+pub walks_from : (body : Nodes) (terms others : Terms) (bits : ℕ) (view seen : Bind) (before bound after : List (Option Bind)) (result : Option Walked)
+    → terms ≡ others → view ≡ seen → before ≡ bound
+    → Walks body terms bits (view ∷ []) before result after → Walks body others bits (seen ∷ []) bound result after
+walks_from body terms others bits view seen before bound after result same_terms same_views same_bound walks =
+    subst (λ t. Walks body t bits (seen ∷ []) bound result after) same_terms
+    (subst (λ v. Walks body terms bits (v ∷ []) bound result after) same_views
+    (subst (λ b. Walks body terms bits (view ∷ []) b result after) same_bound walks))
+
+pub match_is : (rule : Rule) → IsFormed rule → is_eight_bit rule ≡ true → (variant : ℕ) (body : Nodes) (value : ValueId) (result : Option Walked) (after : List (Option Bind))
+    → Walks body rule.search variant (root_view body value ∷ []) (replicate rule.vars None) result after
+    → found_by result after ≡ match_of rule variant body value
+unfolding match_of
+match_is rule formed eight variant body value None after walks =
+    let views : List Bind = root_view body value ∷ [] in
+    sym (ap (λ o. if is_typed rule (met body rule.search variant views) then option_map all_bound o else None) walks
+    ∙ none_either (is_typed rule (met body rule.search variant views)))
+match_is rule formed eight variant body value (Some walked) after walks =
+    let views : List Bind = root_view body value ∷ [] in
+    sym (ap (λ o. if is_typed rule (met body rule.search variant views) then option_map all_bound o else None) walks.0
+    ∙ ap (λ b. if b then Some (all_bound after) else None)
+    (is_typed_eight rule formed eight (met body rule.search variant views) (length-met body rule.search variant views) ∙ sym walks.2))
+
+and_left : (a b : Bool) → (a && b) ≡ true → a ≡ true
+and_left true b h = refl
+and_left false b h = h
+
+and_right : (a b : Bool) → (a && b) ≡ true → b ≡ true
+and_right true b h = h
+and_right false b h = absurd (true≢false (sym h))
+
+-- what holds of all holds at a place
+pub all_at : {A : Type 0} (test : A → Bool) (list : List A) (at : ℕ) (a : A) → list_all test list ≡ true → slice_get list at ≡ Some a → test a ≡ true
+all_at test [] at a all found = absurd (none-some a found)
+all_at test (first ∷ list) zero a all found = ap test (sym (same_Some first a found)) ∙ and_left (test first) (list_all test list) all
+all_at test (first ∷ list) (suc at) a all found = all_at test list at a (and_right (test first) (list_all test list) all) found
+
+-- commutative opcodes of one list and then of another
+pub commutes-then : (a b : Terms) → commutes (lists.then a b) ≡ commutes a + commutes b
+commutes-then Nil b = omega arith
+commutes-then (VarThen var constant size cond rest) b = commutes-then rest b
+commutes-then (LitThen value boolean rest) b = commutes-then rest b
+commutes-then (AppThen op size once args rest) b =
+    let inner : commutes (lists.then rest b) ≡ commutes rest + commutes b = commutes-then rest b in
+    omega (arith, inner)
+
+pub commutes-drop : (list : List Term) (i : ℕ) (t : Term) → i < length list → t ≡ get_or list i t → commutes (terms_of (drop i list)) ≡ commutes (terms_of (t ∷ [])) + commutes (terms_of (drop (i + 1) list))
+commutes-drop list i t within at = ap commutes (lists.terms_of-drop list i t within at) ∙ commutes-then (terms_of (t ∷ [])) (terms_of (drop (i + 1) list))
+
+-- the item at a place, and what stands behind it
+drop_cons : {A : Type 0} (list : List A) (i : ℕ) (a : A) → slice_get list i ≡ Some a → drop i list ≡ a ∷ drop (i + 1) list
+drop_cons [] i a at = absurd (none-some a at)
+drop_cons (first ∷ rest) zero a at = ap (λ x. x ∷ rest) (same_Some first a at)
+drop_cons (first ∷ rest) (suc i) a at = drop_cons rest i a at ∙ ap (λ l. a ∷ l) (drop_suc i)
+  where
+    drop_suc : (i : ℕ) → drop (i + 1) rest ≡ drop (suc i + 1) (first ∷ rest)
+    drop_suc i = ap (λ n. drop n (first ∷ rest)) {x = suc (i + 1)} {y = suc i + 1} (omega arith)
+
+-- the variants from one on are it and those behind it
+range_from : (i n : ℕ) → i < n → range_with_len i (n - i) ≡ i ∷ range_with_len (i + 1) (n - (i + 1))
+range_from i n less = ap (range_with_len i) {x = n - i} {y = suc (n - (i + 1))} (omega (arith, less))
+
+pub variant_found : (rule : Rule) (place : ℕ) (body : Nodes) (value : ValueId) (i n : ℕ) (subst : List Bind) → i < n → match_of rule i body value ≡ Some subst
+    → first_variant rule place body value (range_with_len i (n - i)) ≡ Some (record { rule = place; variant = i; subst = subst })
+variant_found rule place body value i n subst less found =
+    ap (first_variant rule place body value) (range_from i n less)
+    ∙ ap (λ o. option_or (option_map (λ s. record { rule = place; variant = i; subst = s }) o) (first_variant rule place body value (range_with_len (i + 1) (n - (i + 1))))) found
+
+pub variant_passed : (rule : Rule) (place : ℕ) (body : Nodes) (value : ValueId) (i n : ℕ) → i < n → match_of rule i body value ≡ None
+    → first_variant rule place body value (range_with_len (i + 1) (n - (i + 1))) ≡ first_variant rule place body value (range_with_len i (n - i))
+variant_passed rule place body value i n less none =
+    sym (ap (first_variant rule place body value) (range_from i n less)
+    ∙ ap (λ o. option_or (option_map (λ s. record { rule = place; variant = i; subst = s }) o) (first_variant rule place body value (range_with_len (i + 1) (n - (i + 1))))) none)
+
+pub rule_found : (options : Options) (table : List Rule) (place : ℕ) (body : Nodes) (value : ValueId) (rule : Rule) (hit : Hit) → slice_get table place ≡ Some rule → hit_of options rule place body value ≡ Some hit
+    → first_from options place (drop place table) body value ≡ Some hit
+rule_found options table place body value rule hit at found =
+    ap (λ l. first_from options place l body value) (drop_cons table place rule at)
+    ∙ ap (λ o. option_or o (first_from options (suc place) (drop (place + 1) table) body value)) found
+
+pub rule_passed : (options : Options) (table : List Rule) (place : ℕ) (body : Nodes) (value : ValueId) (rule : Rule) → slice_get table place ≡ Some rule → hit_of options rule place body value ≡ None
+    → first_from options (place + 1) (drop (place + 1) table) body value ≡ first_from options place (drop place table) body value
+rule_passed options table place body value rule at none =
+    sym (ap (λ l. first_from options place l body value) (drop_cons table place rule at)
+    ∙ ap (λ o. option_or o (first_from options (suc place) (drop (place + 1) table) body value)) none
+    ∙ ap (λ n. first_from options n (drop (place + 1) table) body value) {x = suc place} {y = place + 1} (omega arith))
+
+-- below the length something stands
+pub rule_there : (table : List Rule) (place : ℕ) → place < length table → (rule : Rule) × (slice_get table place ≡ Some rule)
+rule_there [] place less = absurd (omega (arith, less))
+rule_there (rule ∷ rest) zero less = (rule, refl)
+rule_there (rule ∷ rest) (suc place) less = rule_there rest place (omega (arith, less))

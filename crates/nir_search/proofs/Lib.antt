@@ -1,0 +1,4 @@
+pub mod MatchLemmas
+pub mod WalkLemmas
+pub mod ShapedLemmas
+pub mod FirstLemmas

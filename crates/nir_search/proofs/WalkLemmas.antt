@@ -1,0 +1,186 @@
+-- How a match goes along a list of terms: the first, and then the others.
+use Rattle.nir_ir.specs.Definitions.{width_at}
+use Rattle.std.specs.Prelude.{◌≡◌, refl, ◌<◌, ◌+◌, ℕ, suc, List, [], ◌∷◌, ◌++◌, Option, Some, None, Bool, true, false, ◌&&◌, length, drop, if◌then◌else◌}
+use Rattle.std.proofs.Common.{sym, ◌∙◌, ap, subst, get_or}
+use Rattle.std.specs.List.{list_all}
+use Rattle.std.specs.Option.{option_and_then}
+use Rattle.std.proofs.lemmas.List.Folds.{list_all-append}
+use Rattle.std.proofs.Common.{append_assoc, drop-drop}
+use Rattle.nir_ops.specs.declared.width.Width.{Width}
+use Rattle.nir_ops.specs.declared.width.Width.TheVariants.{W8}
+use Rattle.nir_ir.specs.Nodes.{Nodes}
+use Rattle.rule_term.specs.declared.term.Term.{Term, Term-F, out-Term, map-Term}
+use Rattle.rule_term.specs.declared.term.Term.TheOpen as layer
+use Rattle.rule_term.specs.Terms.{Terms, Nil, VarThen, LitThen, AppThen, before, before_layer, before-out, terms_of}
+use Rattle.rule_term.specs.Lists as lists
+use Rattle.rule_term.specs.Lists.{terms_of-drop, terms_of-var, terms_of-lit, terms_of-app}
+use Rattle.rule_term.specs.Pieces.{terms_count}
+use Rattle.rule_term.specs.Splits.{drop_one, terms_count-terms_of}
+use Rattle.rule_term.specs.Typings.{same_width}
+use Rattle.nir_search.specs.declared.hit.Bind.{Bind}
+use Rattle.nir_search.specs.declared.matching.Walked.{Walked}
+use Rattle.nir_search.specs.Match.{matches, met, bits_behind, bits_left, bind, children, front, is_applied, is_literal, is_swapped, is_taken}
+use Rattle.nir_search.specs.Walks.{Walks}
+
+and_then_assoc : {A : Type 0} (f g : A → Option A) (o : Option A) → option_and_then g (option_and_then f o) ≡ option_and_then (λ a. option_and_then g (f a)) o
+and_then_assoc f g None = refl
+and_then_assoc f g (Some a) = refl
+
+and_then_some : {A : Type 0} (o : Option A) → option_and_then (λ a. Some a) o ≡ o
+and_then_some None = refl
+and_then_some (Some a) = refl
+
+and_then_if : {A : Type 0} (f : A → Option A) (test : Bool) (o : Option A) → option_and_then f (if test then o else None) ≡ (if test then option_and_then f o else None)
+and_then_if f true o = refl
+and_then_if f false o = refl
+
+-- the same functions, place by place
+and_then_same : {A : Type 0} (f g : A → Option A) → ((a : A) → f a ≡ g a) → (o : Option A) → option_and_then f o ≡ option_and_then g o
+and_then_same f g h None = refl
+and_then_same f g h (Some a) = h a
+
+pub bits_behind-then : (a b : Terms) (bits : ℕ) → bits_behind (lists.then a b) bits ≡ bits_behind b (bits_behind a bits)
+bits_behind-then Nil b bits = refl
+bits_behind-then (VarThen var constant size cond rest) b bits = bits_behind-then rest b bits
+bits_behind-then (LitThen value boolean rest) b bits = bits_behind-then rest b bits
+bits_behind-then (AppThen op size once args rest) b bits = bits_behind-then rest b (bits_behind args (bits_left op bits))
+
+pub matches-then : (body : Nodes) (a b : Terms) (bits : ℕ) (views : List Bind) (bound : List (Option Bind))
+    → matches body (lists.then a b) bits views bound ≡ option_and_then (matches body b (bits_behind a bits) (drop (terms_count a) views)) (matches body a bits views bound)
+matches-then body Nil b bits views bound = refl
+matches-then body (VarThen var constant size cond rest) b bits views bound =
+    ap (λ o. if is_taken body constant cond (front views) then o else None)
+    (and_then_same _ _ (λ after. matches-then body rest b bits (drop 1 views) after ∙ ap (λ l. option_and_then (matches body b (bits_behind rest bits) l) (matches body rest bits (drop 1 views) after)) (drop_one (terms_count rest) views)) (bind var (front views) bound)
+    ∙ sym (and_then_assoc (matches body rest bits (drop 1 views)) (matches body b (bits_behind rest bits) (drop (suc (terms_count rest)) views)) (bind var (front views) bound)))
+    ∙ sym (and_then_if (matches body b (bits_behind rest bits) (drop (suc (terms_count rest)) views)) (is_taken body constant cond (front views)) (option_and_then (matches body rest bits (drop 1 views)) (bind var (front views) bound)))
+matches-then body (LitThen value boolean rest) b bits views bound =
+    ap (λ o. if is_literal body value (front views) then o else None)
+    (matches-then body rest b bits (drop 1 views) bound ∙ ap (λ l. option_and_then (matches body b (bits_behind rest bits) l) (matches body rest bits (drop 1 views) bound)) (drop_one (terms_count rest) views))
+    ∙ sym (and_then_if (matches body b (bits_behind rest bits) (drop (suc (terms_count rest)) views)) (is_literal body value (front views)) (matches body rest bits (drop 1 views) bound))
+matches-then body (AppThen op size once args rest) b bits views bound =
+    let behind : ℕ = bits_behind args (bits_left op bits) in
+    let inner : Option (List (Option Bind)) = matches body args (bits_left op bits) (children body (is_swapped op bits) (front views)) bound in
+    ap (λ o. if is_applied body op once (front views) then o else None)
+    (and_then_same _ _ (λ after. matches-then body rest b behind (drop 1 views) after ∙ ap (λ l. option_and_then (matches body b (bits_behind rest behind) l) (matches body rest behind (drop 1 views) after)) (drop_one (terms_count rest) views)) inner
+    ∙ sym (and_then_assoc (matches body rest behind (drop 1 views)) (matches body b (bits_behind rest behind) (drop (suc (terms_count rest)) views)) inner))
+    ∙ sym (and_then_if (matches body b (bits_behind rest behind) (drop (suc (terms_count rest)) views)) (is_applied body op once (front views)) (option_and_then (matches body rest behind (drop 1 views)) inner))
+
+cons_same : {A : Type 0} (a : A) {x y : List A} → x ≡ y → a ∷ x ≡ a ∷ y
+cons_same a e = ap (λ l. a ∷ l) e
+
+pub met-then : (body : Nodes) (a b : Terms) (bits : ℕ) (views : List Bind)
+    → met body (lists.then a b) bits views ≡ met body a bits views ++ met body b (bits_behind a bits) (drop (terms_count a) views)
+met-then body Nil b bits views = refl
+met-then body (VarThen var constant size cond rest) b bits views =
+    cons_same (width_at body (front views).value) (met-then body rest b bits (drop 1 views) ∙ ap (λ l. met body rest bits (drop 1 views) ++ met body b (bits_behind rest bits) l) (drop_one (terms_count rest) views))
+met-then body (LitThen value boolean rest) b bits views =
+    cons_same (width_at body (front views).value) (met-then body rest b bits (drop 1 views) ∙ ap (λ l. met body rest bits (drop 1 views) ++ met body b (bits_behind rest bits) l) (drop_one (terms_count rest) views))
+met-then body (AppThen op size once args rest) b bits views =
+    let behind : ℕ = bits_behind args (bits_left op bits) in
+    let inner : List Width = met body args (bits_left op bits) (children body (is_swapped op bits) (front views)) in
+    cons_same (width_at body (front views).value)
+    (ap (λ l. inner ++ l) (met-then body rest b behind (drop 1 views) ∙ ap (λ l. met body rest behind (drop 1 views) ++ met body b (bits_behind rest behind) l) (drop_one (terms_count rest) views))
+    ∙ sym (append_assoc inner (met body rest behind (drop 1 views)) (met body b (bits_behind rest behind) (drop (suc (terms_count rest)) views))))
+
+-- the same walk along the same terms
+pub walks_along : (body : Nodes) (terms others : Terms) (bits : ℕ) (views : List Bind) (before after : List (Option Bind)) (result : Option Walked)
+    → terms ≡ others → Walks body others bits views before result after → Walks body terms bits views before result after
+walks_along body terms others bits views before after result same walks = subst (λ t. Walks body t bits views before result after) (sym same) walks
+
+-- one term looks at the first view alone
+matches_layer : (body : Nodes) (layer : Term-F (Terms → Terms)) (bits : ℕ) (views : List Bind) (bound : List (Option Bind))
+    → matches body (before_layer layer Nil) bits views bound ≡ matches body (before_layer layer Nil) bits (front views ∷ []) bound
+matches_layer body (layer.Var var constant size cond) bits views bound = refl
+matches_layer body (layer.Lit value boolean) bits views bound = refl
+matches_layer body (layer.App op size once args) bits views bound = refl
+
+matches_front : (body : Nodes) (t : Term) (bits : ℕ) (views : List Bind) (bound : List (Option Bind))
+    → matches body (terms_of (t ∷ [])) bits views bound ≡ matches body (terms_of (t ∷ [])) bits (front views ∷ []) bound
+matches_front body t bits views bound =
+    ap (λ f. matches body (f Nil) bits views bound) (before-out t)
+    ∙ matches_layer body (map-Term Term (Terms → Terms) before (out-Term t)) bits views bound
+    ∙ sym (ap (λ f. matches body (f Nil) bits (front views ∷ []) bound) (before-out t))
+
+met_layer : (body : Nodes) (layer : Term-F (Terms → Terms)) (bits : ℕ) (views : List Bind)
+    → met body (before_layer layer Nil) bits views ≡ met body (before_layer layer Nil) bits (front views ∷ [])
+met_layer body (layer.Var var constant size cond) bits views = refl
+met_layer body (layer.Lit value boolean) bits views = refl
+met_layer body (layer.App op size once args) bits views = refl
+
+met_front : (body : Nodes) (t : Term) (bits : ℕ) (views : List Bind)
+    → met body (terms_of (t ∷ [])) bits views ≡ met body (terms_of (t ∷ [])) bits (front views ∷ [])
+met_front body t bits views =
+    ap (λ f. met body (f Nil) bits views) (before-out t)
+    ∙ met_layer body (map-Term Term (Terms → Terms) before (out-Term t)) bits views
+    ∙ sym (ap (λ f. met body (f Nil) bits (front views ∷ [])) (before-out t))
+
+-- the views behind one term
+behind_one : (t : Term) (i : ℕ) (views : List Bind) → drop (terms_count (terms_of (t ∷ []))) (drop i views) ≡ drop (i + 1) views
+behind_one t i views = ap (λ n. drop n (drop i views)) (terms_count-terms_of (t ∷ [])) ∙ drop-drop 1 i views
+
+-- What is matched from a place on is the term at the place, and then what is matched behind it.
+pub matches_at : (body : Nodes) (list : List Term) (i : ℕ) (t : Term) (bits : ℕ) (views : List Bind) (bound : List (Option Bind))
+    → i < length list → t ≡ get_or list i t
+    → matches body (terms_of (drop i list)) bits (drop i views) bound
+    ≡ option_and_then (matches body (terms_of (drop (i + 1) list)) (bits_behind (terms_of (t ∷ [])) bits) (drop (i + 1) views)) (matches body (terms_of (t ∷ [])) bits (front (drop i views) ∷ []) bound)
+matches_at body list i t bits views bound within at =
+    ap (λ terms. matches body terms bits (drop i views) bound) (terms_of-drop list i t within at)
+    ∙ matches-then body (terms_of (t ∷ [])) (terms_of (drop (i + 1) list)) bits (drop i views) bound
+    ∙ ap (λ l. option_and_then (matches body (terms_of (drop (i + 1) list)) (bits_behind (terms_of (t ∷ [])) bits) l) (matches body (terms_of (t ∷ [])) bits (drop i views) bound)) (behind_one t i views)
+    ∙ ap (option_and_then (matches body (terms_of (drop (i + 1) list)) (bits_behind (terms_of (t ∷ [])) bits) (drop (i + 1) views))) (matches_front body t bits (drop i views) bound)
+
+pub met_at : (body : Nodes) (list : List Term) (i : ℕ) (t : Term) (bits : ℕ) (views : List Bind)
+    → i < length list → t ≡ get_or list i t
+    → met body (terms_of (drop i list)) bits (drop i views)
+    ≡ met body (terms_of (t ∷ [])) bits (front (drop i views) ∷ []) ++ met body (terms_of (drop (i + 1) list)) (bits_behind (terms_of (t ∷ [])) bits) (drop (i + 1) views)
+met_at body list i t bits views within at =
+    ap (λ terms. met body terms bits (drop i views)) (terms_of-drop list i t within at)
+    ∙ met-then body (terms_of (t ∷ [])) (terms_of (drop (i + 1) list)) bits (drop i views)
+    ∙ ap (λ l. met body (terms_of (t ∷ [])) bits (drop i views) ++ met body (terms_of (drop (i + 1) list)) (bits_behind (terms_of (t ∷ [])) bits) l) (behind_one t i views)
+    ∙ ap (λ l. l ++ met body (terms_of (drop (i + 1) list)) (bits_behind (terms_of (t ∷ [])) bits) (drop (i + 1) views)) (met_front body t bits (drop i views))
+
+pub bits_at : (list : List Term) (i : ℕ) (t : Term) (bits : ℕ)
+    → i < length list → t ≡ get_or list i t
+    → bits_behind (terms_of (drop i list)) bits ≡ bits_behind (terms_of (drop (i + 1) list)) (bits_behind (terms_of (t ∷ [])) bits)
+bits_at list i t bits within at =
+    ap (λ terms. bits_behind terms bits) (terms_of-drop list i t within at)
+    ∙ bits_behind-then (terms_of (t ∷ [])) (terms_of (drop (i + 1) list)) bits
+
+and_true : (a b c : Bool) → ((a && b) && c) ≡ (a && (b && c))
+and_true true b c = refl
+and_true false b c = refl
+
+-- where the term at a place matches, the match goes on behind it
+pub walk_on : (body : Nodes) (list : List Term) (i : ℕ) (t : Term) (view : Bind) (bits : ℕ) (views : List Bind) (before after : List (Option Bind)) (walked : Walked)
+    → i < length list → t ≡ get_or list i t → view ≡ front (drop i views)
+    → Walks body (terms_of (t ∷ [])) bits (view ∷ []) before (Some walked) after
+    → (matches body (terms_of (drop (i + 1) list)) walked.bits (drop (i + 1) views) after ≡ matches body (terms_of (drop i list)) bits (drop i views) before)
+    × (bits_behind (terms_of (drop (i + 1) list)) walked.bits ≡ bits_behind (terms_of (drop i list)) bits)
+    × ((eight : Bool) → ((eight && walked.eight) && list_all (same_width W8) (met body (terms_of (drop (i + 1) list)) walked.bits (drop (i + 1) views)))
+    ≡ (eight && list_all (same_width W8) (met body (terms_of (drop i list)) bits (drop i views))))
+walk_on body list i t view bits views before after walked within at is walks =
+    let rest : Terms = terms_of (drop (i + 1) list) in
+    let one : Terms = terms_of (t ∷ []) in
+    let found : matches body one bits (front (drop i views) ∷ []) before ≡ Some after = ap (λ v. matches body one bits (v ∷ []) before) (sym is) ∙ walks.0 in
+    let left : bits_behind one bits ≡ walked.bits = sym walks.1 in
+    let eights : list_all (same_width W8) (met body one bits (front (drop i views) ∷ [])) ≡ walked.eight = ap (λ v. list_all (same_width W8) (met body one bits (v ∷ []))) (sym is) ∙ sym walks.2 in (
+      sym (matches_at body list i t bits views before within at
+          ∙ ap (option_and_then (matches body rest (bits_behind one bits) (drop (i + 1) views))) found
+          ∙ ap (λ b. matches body rest b (drop (i + 1) views) after) left),
+      sym (bits_at list i t bits within at ∙ ap (bits_behind rest) left),
+      λ eight. sym (ap (λ l. eight && list_all (same_width W8) l) (met_at body list i t bits views within at)
+          ∙ ap (λ b. eight && b) (list_all-append (same_width W8) (met body one bits (front (drop i views) ∷ [])) (met body rest (bits_behind one bits) (drop (i + 1) views)))
+          ∙ ap (λ b. eight && (b && list_all (same_width W8) (met body rest (bits_behind one bits) (drop (i + 1) views)))) eights
+          ∙ ap (λ b. eight && (walked.eight && list_all (same_width W8) (met body rest b (drop (i + 1) views)))) left
+          ∙ sym (and_true eight walked.eight (list_all (same_width W8) (met body rest walked.bits (drop (i + 1) views))))),
+    )
+
+-- where it does not, nothing behind it is matched
+pub walk_off : (body : Nodes) (list : List Term) (i : ℕ) (t : Term) (view : Bind) (bits : ℕ) (views : List Bind) (before after : List (Option Bind))
+    → i < length list → t ≡ get_or list i t → view ≡ front (drop i views)
+    → Walks body (terms_of (t ∷ [])) bits (view ∷ []) before None after
+    → matches body (terms_of (drop i list)) bits (drop i views) before ≡ None
+walk_off body list i t view bits views before after within at is walks =
+    matches_at body list i t bits views before within at
+    ∙ ap (option_and_then (matches body (terms_of (drop (i + 1) list)) (bits_behind (terms_of (t ∷ [])) bits) (drop (i + 1) views)))
+    (ap (λ v. matches body (terms_of (t ∷ [])) bits (v ∷ []) before) (sym is) ∙ walks)

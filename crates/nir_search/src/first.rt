@@ -1,0 +1,153 @@
+//! The first rule that matches at a value.
+
+ghost use Rattle.std.specs.Prelude.{◌≡◌, ◌≤◌, ◌<◌, ◌+◌, ◌-◌, ◌^◌, ℕ, [], ◌∷◌, length, min, slice_get, Some, true};
+ghost use Rattle.std.specs.List.{list_all, range_with_len};
+ghost use Rattle.rule_term.specs.Rule.{Rule as Whole};
+ghost use Rattle.rule_term.specs.EightBit.{is_eight_bit};
+ghost use Rattle.rule_term.specs.Terms.{terms_of};
+ghost use Rattle.nir_search.specs.Match.{commutes, match_of, root_view, variant_count};
+ghost use Rattle.nir_search.specs.First.{first_hit, first_from, first_variant, hit_of};
+
+use crate::bound::Bound;
+use crate::facts::{count_at, is_commutative};
+use crate::hit::{Hit, RuleVariant, Subst};
+use crate::matching::match_term;
+use crate::steps::Steps;
+use crate::view::whole_view;
+use nir_ir::{Shader, ValueId};
+use rule_term::{Options, Rule, Table, Term};
+use std::sync::ledger::Ledger;
+
+/// What the variables of a rule at 8 bits take where this variant of it matches at the value.
+fn match_at(rule: &Rule, variant: u32, shader: &Shader, value: ValueId) -> Option<Subst>
+    requires { is_eight_bit rule.now ≡ true }
+    ensures { result ≡ match_of rule.now variant shader.now.body value }
+{
+    let view = whole_view(value, count_at(shader, value));
+    let mut bound = Bound::new(rule.vars);
+    match match_term(shader, &rule.search, view, variant, &mut bound) {
+        Some(walked) => {
+            if walked.eight {
+                return Some(bound.subst());
+            }
+            None
+        }
+        None => None,
+    }
+}
+
+/// What the variables of a rule take where this variant of it matches at the value; None exactly where it does
+/// not. The rules of the table stand at 8 bits alone, so far. Counts one step. A plain walk: each value on the way
+/// is sought through the shader.
+#[tactic(auto, using(crate::proofs::FirstLemmas::all_at))]
+pub fn match_rule<L: Ledger>(
+    table: &Table,
+    rv: RuleVariant,
+    shader: &Shader,
+    value: ValueId,
+    steps: &mut Steps<L>,
+) -> Option<Subst>
+    requires place { rv.rule < length table.now }
+    requires eight { list_all is_eight_bit table.now ≡ true }
+    ensures value { (rule : Whole) → slice_get table.now rv.rule ≡ Some rule → result ≡ match_of rule rv.variant shader.now.body value }
+    ensures counted { steps.new ≡ steps.old + 1 }
+{
+    steps.tick();
+    match_at(table.rule(rv.rule), rv.variant, shader, value)
+}
+
+// Commutative opcodes are counted as what they leave of 8: each takes one away, as long as there is one.
+
+/// What a term leaves.
+#[cycle(commutes)]
+fn without_term(term: &Term, left: u32) -> u32
+    ensures { result ≡ left - commutes (terms_of (term.now ∷ [])) }
+{
+    match term {
+        Term::Var { .. } => left,
+        Term::Lit { .. } => left,
+        Term::App { op, args, .. } => {
+            if is_commutative(*op) {
+                return without_terms(args.as_slice(), left.saturating_sub(1));
+            }
+            without_terms(args.as_slice(), left)
+        }
+    }
+}
+
+/// What terms leave.
+#[cycle(commutes)]
+fn without_terms(terms: &[Term], left: u32) -> u32
+    ensures { result ≡ left - commutes (terms_of terms.now) }
+{
+    let mut left = left;
+    for term in terms {
+        left = without_term(term, left);
+    }
+    left
+}
+
+/// How many variants a rule has: 2 to the number of the commutative opcodes of its search side, of which at most 8 count.
+fn variant_count(rule: &Rule) -> u32
+    ensures { result ≡ variant_count rule.now }
+{
+    1 << (8 - without_term(&rule.search, 8))
+}
+
+/// What one rule finds, of which the place in the table is this one.
+fn hit_of<L: Ledger>(
+    table: &Table,
+    place: u32,
+    options: &Options,
+    shader: &Shader,
+    value: ValueId,
+    steps: &mut Steps<L>,
+) -> Option<Hit>
+    requires place { place < length table.now }
+    requires eight { list_all is_eight_bit table.now ≡ true }
+    ensures { (rule : Whole) → slice_get table.now place ≡ Some rule → result ≡ hit_of options.now rule place shader.now.body value }
+{
+    let rule = table.rule(place);
+    if !rule.when.holds(options) {
+        return None;
+    }
+    for variant in 0..variant_count(rule) {
+        let rv = RuleVariant {
+            rule: place,
+            variant,
+        };
+        match match_rule(table, rv, shader, value, steps) {
+            Some(subst) => {
+                return Some(Hit {
+                    rule: place,
+                    variant,
+                    subst,
+                });
+            }
+            None => {}
+        }
+    }
+    None
+}
+
+/// The first rule of the table that matches at the value, of which the options hold, with the first of its variants
+/// that does; None exactly where none does. The rules of the table stand at 8 bits alone, so far. A plain search
+/// through all rules and variants.
+pub fn first_match<L: Ledger>(
+    table: &Table,
+    options: &Options,
+    shader: &Shader,
+    value: ValueId,
+    steps: &mut Steps<L>,
+) -> Option<Hit>
+    requires eight { list_all is_eight_bit table.now ≡ true }
+    ensures { result ≡ first_hit options.now table.now shader.now.body value }
+{
+    for place in 0..table.len() {
+        match hit_of(table, place as u32, options, shader, value, steps) {
+            Some(hit) => return Some(hit),
+            None => {}
+        }
+    }
+    None
+}

@@ -1,0 +1,197 @@
+//! The walk of a match: along the search side of a rule, and along what the shader computes.
+
+ghost use Rattle.std.specs.Prelude.{◌≡◌, ◌≤◌, false, [], ◌∷◌, length, List, map, None, Option};
+ghost use Rattle.std.specs.Option.{option_map};
+ghost use Rattle.rule_term.specs.Typings.{same_width};
+ghost use Rattle.rule_term.specs.Terms.{terms_of, Nil, VarThen, LitThen, AppThen};
+ghost use Rattle.nir_search.specs.Match.{bits_left, child, is_swapped, swapped};
+ghost use Rattle.nir_search.specs.Walks.{IsSources, Walks};
+ghost use Rattle.nir_search.specs.declared.hit.Bind as bind;
+
+use crate::bound::Bound;
+use crate::facts::{is_commutative, is_literal, is_taken, same_op, width_at};
+use crate::hit::Bind;
+use crate::view::child_at;
+use nir_ir::{Instr, Shader, Src};
+use nir_ops::{Op, Width};
+use rule_term::{Cond, Term};
+
+/// How far a match came: what is left of the variant's bits, and whether all values that were met have 8 bits.
+#[derive(Clone, Copy)]
+pub struct Walked {
+    pub bits: u32,
+    pub eight: bool,
+}
+
+fn is_eight(width: Width) -> bool
+    ensures { result ≡ same_width Width.W8 width }
+{
+    match width {
+        Width::W8 => true,
+        Width::W1 | Width::W16 | Width::W32 | Width::W64 => false,
+    }
+}
+
+/// Whether the sources of the opcode stand swapped.
+fn is_swapped(op: Op, bits: u32) -> bool
+    ensures { result ≡ is_swapped op bits }
+{
+    if !is_commutative(op) {
+        return false;
+    }
+    bits % 2 == 1
+}
+
+/// The bits that are left behind the opcode.
+fn bits_left(op: Op, bits: u32) -> u32
+    ensures { result ≡ bits_left op bits }
+{
+    if is_commutative(op) { bits / 2 } else { bits }
+}
+
+/// Matches a variable with a view.
+fn match_var(
+    shader: &Shader,
+    var: u32,
+    constant: bool,
+    cond: Option<Cond>,
+    view: Bind,
+    bits: u32,
+    bound: &mut Bound,
+) -> Option<Walked>
+    ensures { Walks shader.now.body (VarThen var constant None cond Nil) bits (view ∷ []) bound.old result bound.new }
+{
+    if !is_taken(shader, constant, cond, &view) {
+        return None;
+    }
+    let eight = is_eight(width_at(shader, view.value));
+    if !bound.bind(var, view) {
+        return None;
+    }
+    Some(Walked { bits, eight })
+}
+
+/// Matches a number with a view. It binds nothing.
+fn match_lit(shader: &Shader, value: i128, view: Bind, bits: u32, bound: &Bound) -> Option<Walked>
+    ensures { Walks shader.now.body (LitThen value false Nil) bits (view ∷ []) bound.now result bound.now }
+{
+    let _ = bound;
+    if !is_literal(shader, value, &view) {
+        return None;
+    }
+    Some(Walked {
+        bits,
+        eight: is_eight(width_at(shader, view.value)),
+    })
+}
+
+/// Matches a term with a view.
+#[cycle(matching)]
+pub fn match_term(
+    shader: &Shader,
+    term: &Term,
+    view: Bind,
+    bits: u32,
+    bound: &mut Bound,
+) -> Option<Walked>
+    ensures { Walks shader.now.body (terms_of (term.now ∷ [])) bits (view ∷ []) bound.old result bound.new }
+{
+    match term {
+        Term::Var {
+            var,
+            constant,
+            cond,
+            ..
+        } => match_var(shader, *var, *constant, *cond, view, bits, bound),
+        Term::Lit { value, .. } => match_lit(shader, *value, view, bits, bound),
+        Term::App { op, once, args, .. } => {
+            match_app(shader, *op, *once, args.as_slice(), view, bits, bound)
+        }
+    }
+}
+
+/// Matches an opcode over its sources with a view.
+#[cycle(matching)]
+fn match_app(
+    shader: &Shader,
+    op: Op,
+    once: bool,
+    args: &[Term],
+    view: Bind,
+    bits: u32,
+    bound: &mut Bound,
+) -> Option<Walked>
+    ensures { Walks shader.now.body (AppThen op None once (terms_of args.now) Nil) bits (view ∷ []) bound.old result bound.new }
+{
+    let srcs = sources_of(shader, op, once, &view)?;
+    let eight = is_eight(width_at(shader, view.value));
+    let walked = match_args(
+        shader,
+        args,
+        view.comps.as_slice(),
+        is_swapped(op, bits),
+        srcs,
+        bits_left(op, bits),
+        bound,
+    )?;
+    Some(Walked {
+        bits: walked.bits,
+        eight: eight & walked.eight,
+    })
+}
+
+/// The sources of the instruction that writes the viewed value, where it is of this opcode and, where that is asked, has one use.
+fn sources_of<'a>(shader: &'a Shader, op: Op, once: bool, view: &Bind) -> Option<&'a [Src]>
+    ensures { IsSources shader.now.body op once view.now (option_map (λ srcs. srcs.now) result) }
+{
+    let Some(
+        Instr::Alu {
+            op: found,
+            srcs,
+            ..
+        },
+    ) = shader.instr(view.value)
+    else {
+        return None;
+    };
+    if !same_op(*found, op) {
+        return None;
+    }
+    if !once {
+        return Some(srcs.as_slice());
+    }
+    if shader.is_used_once(view.value) {
+        Some(srcs.as_slice())
+    } else {
+        None
+    }
+}
+
+/// Matches the sources of an opcode, as the rule has them, with the sources of an instruction, of which these components are viewed.
+#[cycle(matching)]
+fn match_args(
+    shader: &Shader,
+    args: &[Term],
+    comps: &[u8],
+    flag: bool,
+    srcs: &[Src],
+    bits: u32,
+    bound: &mut Bound,
+) -> Option<Walked>
+    requires { length comps.now ≤ 16 }
+    ensures { Walks shader.now.body (terms_of args.now) bits (map (child comps.now) (swapped flag srcs.now)) bound.old result bound.new }
+{
+    let mut bits = bits;
+    let mut eight = true;
+    for (at, arg) in args.iter().enumerate() {
+        let view = child_at(comps, flag, srcs, at);
+        match match_term(shader, arg, view, bits, bound) {
+            Some(walked) => {
+                bits = walked.bits;
+                eight &= walked.eight;
+            }
+            None => return None,
+        }
+    }
+    Some(Walked { bits, eight })
+}
