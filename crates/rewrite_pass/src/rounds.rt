@@ -1,0 +1,79 @@
+//! Steps by rules until none is legal.
+
+ghost use Rattle.std.specs.Prelude.{◌≡◌, ◌≤◌, ◌⊎◌, IfOk, Some, true};
+ghost use Rattle.std.specs.List.{list_all};
+ghost use Rattle.nir_search.specs.First.{first_hit};
+ghost use Rattle.nir_search.specs.Steps.{is_settled};
+ghost use Rattle.rewrite_pass.specs.Built.{is_built};
+ghost use Rattle.rewrite_pass.specs.Rewriting.{Rewrites};
+
+use crate::rewrite::rewrite_at;
+use crate::search::{Found, find_hit};
+use nir_host::OutOfMemory;
+use nir_ir::{Journal, Shader, Step};
+use nir_search::Steps;
+use rule_term::{Options, Table};
+use std::alloc::Global;
+use std::sync::ledger::Ledger;
+
+/// A shader after steps by rules, and how many they were.
+#[derive(Debug, Drop)]
+pub struct Rewritten {
+    pub shader: Shader,
+    pub rewrites: u64,
+}
+
+/// Does the step by what was found, and tells it at the end of the journal. After `OutOfMemory` the shader is dropped.
+fn rewrite_found(
+    alloc: Global,
+    shader: Shader,
+    table: &Table,
+    options: &Options,
+    found: &Found,
+    journal: &mut Journal,
+) -> Result<Shader, OutOfMemory>
+    requires built { list_all is_built table.now ≡ true }
+    requires first { first_hit options.now table.now shader.body found.now.value ≡ Some found.now.hit }
+    ensures { IfOk result (λ after. Rewrites options.now table.now shader after journal.old journal.new 1) }
+{
+    let _ = options;
+    let step = Step::Rule {
+        value: found.value,
+        rule: table.rule(found.hit.rule).number,
+        variant: found.hit.variant,
+    };
+    journal.push(step)?;
+    rewrite_at(alloc, shader, table, found.value, &found.hit)
+}
+
+/// Does the step by the first rule that matches at the first value at which one does, again and again: until no rule
+/// matches at any value, or so many steps were done. Each is told at the end of the journal. After `OutOfMemory` the
+/// shader is dropped, and the journal may hold a last step that was not done.
+pub fn rewrite_all<L: Ledger>(
+    alloc: Global,
+    shader: Shader,
+    table: &Table,
+    options: &Options,
+    limit: u64,
+    journal: &mut Journal,
+    steps: &mut Steps<L>,
+) -> Result<Rewritten, OutOfMemory>
+    requires built { list_all is_built table.now ≡ true }
+    ensures steps { IfOk result (λ r. Rewrites options.now table.now shader r.shader journal.old journal.new r.rewrites) }
+    ensures few { IfOk result (λ r. r.rewrites ≤ limit) }
+    ensures settled { IfOk result (λ r. (is_settled options.now table.now r.shader ≡ true) ⊎ (r.rewrites ≡ limit)) }
+{
+    let mut shader = shader;
+    for rewrites in 0..limit {
+        match find_hit(&shader, table, options, steps) {
+            Some(found) => {
+                shader = rewrite_found(alloc, shader, table, options, &found, journal)?;
+            }
+            None => return Ok(Rewritten { shader, rewrites }),
+        }
+    }
+    Ok(Rewritten {
+        shader,
+        rewrites: limit,
+    })
+}
