@@ -1,0 +1,14 @@
+pub mod Known
+pub mod Outcome
+pub mod Run
+pub mod Same
+pub mod State
+pub mod Values
+pub mod Worked
+pub mod ViewLaws
+pub mod Reads
+pub mod Valid
+pub mod Bytes
+pub mod Points
+pub mod Block
+pub mod Replaced

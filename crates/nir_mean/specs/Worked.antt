@@ -1,0 +1,211 @@
+-- The definitions computed on shaders that were worked out by hand.
+use Rattle.std.specs.Prelude.{◌≡◌, refl, ℕ, zero, suc, true, false, ◌||◌, nat_eq, slice_get, slice_index, List, [], ◌∷◌, Some, None}
+use Rattle.std.proofs.Common.{sym, ◌∙◌, ap, lit<}
+use Rattle.std.proofs.lemmas.Option.{none-some, same_Some}
+use Rattle.nir_ops.specs.declared.op.Op.TheVariants.{Iadd}
+use Rattle.nir_ops.specs.declared.width.Width.TheVariants.{W1, W8, W16, W32}
+use Rattle.nir_ops.specs.Opcodes.{op_allows, op_info, row_of}
+use Rattle.op_eval.specs.Calls.{result_width, source_widths, unsized_width}
+use Rattle.op_eval.specs.Meaning.{meaning, op_mean}
+use Rattle.op_eval.specs.Views.{shape_of, view_mean}
+use Rattle.op_eval.specs.Word.{residue}
+use Rattle.nir_ir.specs.declared.ids.ValueId.{ValueId}
+use Rattle.nir_ir.specs.declared.instr.Instr.{Instr}
+use Rattle.nir_ir.specs.declared.instr.Instr.TheVariants.{Alu, Const, Input, Output, LoadBuf, StoreBuf}
+use Rattle.nir_ir.specs.declared.instr.Src.{Src}
+use Rattle.nir_ir.specs.declared.kind.Kind.{Kind}
+use Rattle.nir_ir.specs.declared.node.Block as block
+use Rattle.nir_ir.specs.declared.node.Phi.{Phi}
+use Rattle.nir_ir.specs.Nodes.{Nil, BlockThen, IfThen, LoopThen}
+use Rattle.nir_ir.specs.Shader.{Shader}
+use Rattle.nir_mean.specs.Outcome.{Done, Cut, outcome}
+use Rattle.nir_mean.specs.Replaced.{SameValue}
+use Rattle.nir_mean.specs.Valid.{Valid}
+use Rattle.nir_mean.specs.Values.{alu_mean}
+
+abbrev value : ℕ → ValueId
+value n = record { 0 = n }
+
+abbrev w1x1 : Kind
+w1x1 = record { width = W1; count = 1 }
+
+abbrev w8x1 : Kind
+w8x1 = record { width = W8; count = 1 }
+
+abbrev w16x2 : Kind
+w16x2 = record { width = W16; count = 2 }
+
+abbrev w32x1 : Kind
+w32x1 = record { width = W32; count = 1 }
+
+abbrev first_of : ℕ → Src
+first_of n = record { value = value n; swizzle = 0 ∷ [] }
+
+-- the phi of the value n, which takes value a from block x and value b from block y
+abbrev phi_of : ℕ → ℕ → ℕ → ℕ → ℕ → Phi
+phi_of n x a y b = record {
+  value = value n;
+  kind = w8x1;
+  sources = record { from = record { 0 = x }; value = value a } ∷ record { from = record { 0 = y }; value = value b } ∷ [];
+}
+
+abbrev block_of : ℕ → List Phi → List Instr → block.Block
+block_of n phis instrs = record { id = record { 0 = n }; phis = phis; instrs = instrs; jump = None }
+
+-- the sum of two inputs at 8 bits
+abbrev sum_of_inputs : Shader
+sum_of_inputs = record {
+  inputs = w8x1 ∷ w8x1 ∷ [];
+  outputs = w8x1 ∷ [];
+  buffers = 0;
+  body = BlockThen (block_of 0 [] (
+      Input (value 0) w8x1 0
+      ∷ Input (value 1) w8x1 1
+      ∷ Alu (value 2) Iadd w8x1 (first_of 0 ∷ first_of 1 ∷ [])
+      ∷ Output (record { 0 = 0 }) 0 (value 2)
+      ∷ [])) Nil;
+  next_value = 3;
+}
+
+pub sum_worked : outcome sum_of_inputs ((200 ∷ []) ∷ (100 ∷ []) ∷ []) [] 0 ≡ record { ending = Done; stores = []; outputs = (44 ∷ []) ∷ [] }
+unfolding outcome alu_mean view_mean shape_of unsized_width op_info row_of op_mean meaning residue
+sum_worked = refl
+
+sum_read : (id : ValueId) (at : ℕ) → slice_get (value 0 ∷ value 1 ∷ []) at ≡ Some id → (nat_eq id.0 1 || (nat_eq id.0 0 || false)) ≡ true
+sum_read id zero is = ap (λ v. nat_eq v.0 1 || (nat_eq v.0 0 || false)) (sym (same_Some (value 0) id is))
+sum_read id (suc zero) is = ap (λ v. nat_eq v.0 1 || (nat_eq v.0 0 || false)) (sym (same_Some (value 1) id is))
+sum_read id (suc (suc at)) is = absurd (none-some id is)
+
+sum_told : (id : ValueId) (at : ℕ) → slice_get (value 2 ∷ []) at ≡ Some id → (nat_eq id.0 2 || (nat_eq id.0 1 || (nat_eq id.0 0 || false))) ≡ true
+sum_told id zero is = ap (λ v. nat_eq v.0 2 || (nat_eq v.0 1 || (nat_eq v.0 0 || false))) (sym (same_Some (value 2) id is))
+sum_told id (suc at) is = absurd (none-some id is)
+
+pub sum_valid : Valid sum_of_inputs
+unfolding op_info row_of op_allows unsized_width source_widths result_width
+sum_valid = (
+  record {
+    phis = refl;
+    jump = refl;
+    instrs = (
+      (λ id at. absurd (none-some id at.1)),
+      refl,
+      (
+        (λ id at. absurd (none-some id at.1)),
+        refl,
+        (
+          (λ id at. sum_read id at.0 at.1),
+          record {
+            widths = record { allowed = refl; result = refl; sources = refl };
+            counts = record { result = refl; sources = refl };
+            names = ((lit< tt, tt), ((lit< tt, tt), tt));
+          },
+          (
+            (λ id at. sum_told id at.0 at.1),
+            refl,
+            tt,
+          ),
+        ),
+      ),
+    );
+  },
+  tt,
+)
+
+-- two words of 16 bits stored and loaded as one of 32, and again where the second is not inside the buffer
+abbrev store_and_load : ℕ → Shader
+store_and_load offset = record {
+  inputs = [];
+  outputs = w32x1 ∷ [];
+  buffers = 1;
+  body = BlockThen (block_of 0 [] (
+      Const (value 0) w32x1 (offset ∷ [])
+      ∷ Const (value 1) w16x2 (4660 ∷ 22136 ∷ [])
+      ∷ StoreBuf (record { 0 = 0 }) 0 (value 0) (value 1)
+      ∷ LoadBuf (value 2) w32x1 0 (value 0)
+      ∷ Output (record { 0 = 1 }) 0 (value 2)
+      ∷ [])) Nil;
+  next_value = 3;
+}
+
+pub store_worked : outcome (store_and_load 1) [] ((1 ∷ 2 ∷ 3 ∷ 4 ∷ 5 ∷ 6 ∷ []) ∷ []) 0 ≡ record {
+  ending = Done;
+  stores = record { buffer = 0; offset = 1; kind = w16x2; comps = 4660 ∷ 22136 ∷ [] } ∷ [];
+  outputs = (1450709556 ∷ []) ∷ [];
+}
+unfolding outcome
+store_worked = refl
+
+pub outside_worked : outcome (store_and_load 3) [] ((1 ∷ 2 ∷ 3 ∷ 4 ∷ 5 ∷ 6 ∷ []) ∷ []) 0 ≡ record {
+  ending = Done;
+  stores = record { buffer = 0; offset = 3; kind = w16x2; comps = 4660 ∷ 22136 ∷ [] } ∷ [];
+  outputs = (0 ∷ []) ∷ [];
+}
+unfolding outcome
+outside_worked = refl
+
+-- a loop without an end that doubles its phi
+abbrev doubling : Shader
+doubling = record {
+  inputs = [];
+  outputs = w8x1 ∷ [];
+  buffers = 0;
+  body = BlockThen (block_of 0 [] (Const (value 0) w8x1 (1 ∷ []) ∷ []))
+      (LoopThen (record { 0 = 0 }) (BlockThen (block_of 1 (phi_of 1 0 0 1 2 ∷ []) (
+      Alu (value 2) Iadd w8x1 (first_of 1 ∷ first_of 1 ∷ [])
+      ∷ Output (record { 0 = 0 }) 0 (value 2)
+      ∷ [])) Nil)
+      (BlockThen (block_of 2 [] []) Nil));
+  next_value = 3;
+}
+
+pub doubling_worked : outcome doubling [] [] 3 ≡ record { ending = Cut; stores = []; outputs = (16 ∷ []) ∷ [] }
+unfolding outcome alu_mean view_mean shape_of unsized_width op_info row_of op_mean meaning residue
+doubling_worked = refl
+
+-- a choice of two consts by an input
+abbrev choice : Shader
+choice = record {
+  inputs = w1x1 ∷ [];
+  outputs = w8x1 ∷ [];
+  buffers = 0;
+  body = BlockThen (block_of 0 [] (Input (value 0) w1x1 0 ∷ []))
+      (IfThen (record { 0 = 0 }) (value 0)
+      (BlockThen (block_of 1 [] (Const (value 1) w8x1 (5 ∷ []) ∷ [])) Nil)
+      (BlockThen (block_of 2 [] (Const (value 2) w8x1 (7 ∷ []) ∷ [])) Nil)
+      (BlockThen (block_of 3 (phi_of 3 1 1 2 2 ∷ []) (Output (record { 0 = 0 }) 0 (value 3) ∷ [])) Nil));
+  next_value = 4;
+}
+
+pub first_worked : outcome choice ((1 ∷ []) ∷ []) [] 0 ≡ record { ending = Done; stores = []; outputs = (5 ∷ []) ∷ [] }
+unfolding outcome
+first_worked = refl
+
+pub second_worked : outcome choice ((0 ∷ []) ∷ []) [] 0 ≡ record { ending = Done; stores = []; outputs = (7 ∷ []) ∷ [] }
+unfolding outcome
+second_worked = refl
+
+-- the sum of two consts, and the const that can take its place
+abbrev sum_instr : Instr
+sum_instr = Alu (value 2) Iadd w8x1 (first_of 0 ∷ first_of 1 ∷ [])
+
+abbrev sum_of_consts : Shader
+sum_of_consts = record {
+  inputs = [];
+  outputs = w8x1 ∷ [];
+  buffers = 0;
+  body = BlockThen (block_of 0 [] (
+      Const (value 0) w8x1 (200 ∷ [])
+      ∷ Const (value 1) w8x1 (100 ∷ [])
+      ∷ sum_instr
+      ∷ Output (record { 0 = 0 }) 0 (value 2)
+      ∷ [])) Nil;
+  next_value = 3;
+}
+
+pub fold_worked : SameValue sum_of_consts sum_instr (Const (value 2) w8x1 (44 ∷ []))
+unfolding alu_mean view_mean shape_of unsized_width op_info row_of op_mean meaning residue
+fold_worked inputs repeats set state given known reads =
+    let first : state.values 0 ≡ 200 ∷ [] = known.values.equal (value 0) (Const (value 0) w8x1 (200 ∷ [])) (reads (value 0) (0, refl)) refl in
+    let second : state.values 1 ≡ 100 ∷ [] = known.values.equal (value 1) (Const (value 1) w8x1 (100 ∷ [])) (reads (value 1) (1, refl)) refl in
+    sym (ap (λ comps. op_mean Iadd 8 8 (slice_index comps 0 ∷ slice_index (state.values 1) 0 ∷ []) ∷ []) first
+    ∙ ap (λ comps. op_mean Iadd 8 8 (200 ∷ slice_index comps 0 ∷ []) ∷ []) second)

@@ -1,0 +1,2 @@
+//! What a shader means.
+#![tactic(auto)]

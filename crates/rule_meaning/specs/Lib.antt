@@ -1,0 +1,14 @@
+pub mod Bound
+pub mod Env
+pub mod Fit
+pub mod Fitting
+pub mod Matched
+pub mod Parts
+pub mod Replaced
+pub mod Sources
+pub mod StepSame
+pub mod StepValue
+pub mod Swaps
+pub mod Unfit
+pub mod Views
+pub mod Walked

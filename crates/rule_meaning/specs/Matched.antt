@@ -1,0 +1,160 @@
+-- What a match of a rule at 8 bits says: the variables are bound to views of values in the set, what they have there are words that meet the conditions, and the search side has the value at which the rule matches.
+use Rattle.std.specs.Prelude.{◌≡◌, refl, ◌<◌, ◌≤◌, ◌+◌, ℕ, zero, suc, true, Option, Some, None, List, [], ◌∷◌, length, replicate, slice_get, slice_index}
+use Rattle.std.proofs.Common.{sym, ◌∙◌, ap, subst, arith}
+use Rattle.std.proofs.lemmas.Bool.{and_parts}
+use Rattle.std.proofs.lemmas.List.{length-replicate, take-replicate}
+use Rattle.std.proofs.lemmas.List.FromFn.{get_or-range_with_len, length-range_with_len}
+use Rattle.std.proofs.lemmas.Option.{get_or_from_slice_get, none-some, same_Some, slice_get-map}
+use Rattle.std.specs.List.{AllByRecursion, list_all, range_with_len}
+use Rattle.std.specs.Option.{option_map, option_map_or}
+use Rattle.nir_ops.specs.declared.width.Width.TheVariants.{W8}
+use Rattle.nir_ir.specs.declared.ids.ValueId.{ValueId}
+use Rattle.nir_ir.specs.declared.kind.Kind.{Kind}
+use Rattle.nir_ir.specs.Definitions.{kind_at, width_at}
+use Rattle.nir_ir.specs.Nodes.{Nodes}
+use Rattle.nir_ir.specs.Shaped.{IsShaped}
+use Rattle.nir_ir.specs.Shader.{Shader}
+use Rattle.rule_term.specs.EightBit.{all_eight, is_eight_bit}
+use Rattle.rule_term.specs.EightBitLaws.{IsEight-from_is_eight_bit}
+use Rattle.rule_term.specs.Formed.{IsFormed}
+use Rattle.rule_term.specs.Holds.{are_met, are_words, is_met, is_word, values_of}
+use Rattle.rule_term.specs.Pieces.{terms_count, vars_of}
+use Rattle.rule_term.specs.Rule.{Rule}
+use Rattle.rule_term.specs.Sizes.{same_width-same}
+use Rattle.rule_term.specs.Terms.{Terms, Nil, VarThen, LitThen, AppThen}
+use Rattle.rule_term.specs.Typings.{occurrences, same_width, search_part, size_of}
+use Rattle.nir_search.specs.declared.hit.Bind.{Bind}
+use Rattle.nir_search.specs.Match.{all_bound, is_typed, match_of, matches, met, root_view}
+use Rattle.nir_search.specs.Met.{is_typed_eight, length-met}
+use Rattle.nir_mean.specs.Known.{IsKnown, Set}
+use Rattle.nir_mean.specs.Values.{Values}
+use Rattle.rule_meaning.specs.Bound.{AreBound, IsBound, IsBoundTo, all_numbered, are_bound}
+use Rattle.rule_meaning.specs.Env.{at_place, env}
+use Rattle.rule_meaning.specs.Fit.{IsFit, component_count}
+use Rattle.rule_meaning.specs.Parts.{all_weaken, if_parts}
+use Rattle.rule_meaning.specs.Views.{IsView, kind_width}
+use Rattle.rule_meaning.specs.Walked.{Agrees, IsWalked, Says, walked}
+
+-- a variant of a rule at 8 bits matches at a value of a shader of whose values so much is known
+pub record IsMatched (s : Shader) (rule : Rule) (variant : ℕ) (value : ValueId) (kind : Kind) (subst : List Bind) (set : Set) (values : Values) : Type 0 where
+  pub shaped : IsShaped s
+  pub formed : IsFormed rule
+  pub eight : is_eight_bit rule ≡ true
+  pub kind_is : kind_at s.body value ≡ Some kind
+  pub found : match_of rule variant s.body value ≡ Some subst
+  pub known : IsKnown s.body set values
+  pub fit : IsFit s.body set
+  pub inside : set value.0 ≡ true
+
+some_map : {A B : Type 0} (f : A → B) (o : Option A) (b : B) → option_map f o ≡ Some b → (a : A) × (o ≡ Some a) × (f a ≡ b)
+some_map f None b e = absurd (none-some b e)
+some_map f (Some a) b e = (a, refl, same_Some (f a) b e)
+
+-- nothing is bound at the start
+none_bound : (n var : ℕ) (view : Bind) → IsBoundTo (replicate n None) var view → ⊥
+none_bound zero var view at = none-some (Some view) at
+none_bound (suc n) zero view at = none-some view (same_Some None (Some view) at)
+none_bound (suc n) (suc var) view at = none_bound n var view at
+
+all_range : (a n m : ℕ) → a + n ≤ m → AllByRecursion (λ c. c < m) (range_with_len a n)
+all_range a zero m less = tt
+all_range a (suc n) m less = (omega (arith, less), all_range (a + 1) n m (omega (arith, less)))
+
+pub root_is_view : (body : Nodes) (set : Set) (value : ValueId) → set value.0 ≡ true → IsView body set (component_count body value) (root_view body value)
+root_is_view body set value inside = record {
+  inside = inside;
+  places = length-range_with_len 0 (component_count body value);
+  comps = all_range 0 (component_count body value) (component_count body value) (omega arith);
+}
+
+-- the walk that a match is
+pub record IsWalk (s : Shader) (rule : Rule) (variant : ℕ) (value : ValueId) (binds : List Bind) : Type 0 where
+  pub bound : List (Option Bind)
+  pub matched : matches s.body rule.search variant (root_view s.body value ∷ []) (replicate rule.vars None) ≡ Some bound
+  pub binds_are : all_bound bound ≡ binds
+  pub widths : list_all (same_width W8) (met s.body rule.search variant (root_view s.body value ∷ [])) ≡ true
+
+walk_of : (s : Shader) (rule : Rule) (variant : ℕ) (value : ValueId) (binds : List Bind) → IsFormed rule → is_eight_bit rule ≡ true → match_of rule variant s.body value ≡ Some binds → IsWalk s rule variant value binds
+unfolding match_of
+walk_of s rule variant value binds formed eight found =
+    let views = root_view s.body value ∷ [] in
+    let parts = if_parts (is_typed rule (met s.body rule.search variant views)) (option_map all_bound (matches s.body rule.search variant views (replicate rule.vars None))) binds found in
+    let bound = some_map all_bound (matches s.body rule.search variant views (replicate rule.vars None)) binds parts.1 in
+    record {
+      bound = bound.0;
+      matched = bound.1;
+      binds_are = bound.2;
+      widths = sym (is_typed_eight rule formed eight (met s.body rule.search variant views) (length-met s.body rule.search variant views)) ∙ parts.0;
+    }
+
+first_met : (body : Nodes) (terms : Terms) (bits : ℕ) (view : Bind) (views : List Bind) → terms_count terms ≡ 1 → list_all (same_width W8) (met body terms bits (view ∷ views)) ≡ true → width_at body view.value ≡ W8
+first_met body Nil bits view views one all = absurd (omega (arith, one))
+first_met body (VarThen var constant size cond rest) bits view views one all =
+    sym (same_width-same W8 (width_at body view.value) (and_parts (same_width W8 (width_at body view.value)) (list_all (same_width W8) (met body rest bits views)) all).0)
+first_met body (LitThen number boolean rest) bits view views one all =
+    sym (same_width-same W8 (width_at body view.value) (and_parts (same_width W8 (width_at body view.value)) (list_all (same_width W8) (met body rest bits views)) all).0)
+first_met body (AppThen op size once args rest) bits view views one all =
+    sym (same_width-same W8 (width_at body view.value) (and_parts (same_width W8 (width_at body view.value)) _ all).0)
+
+-- where a rule at 8 bits matches, the value has 8 bits
+pub root_eight : (s : Shader) (rule : Rule) (variant : ℕ) (value : ValueId) (binds : List Bind) → IsFormed rule → is_eight_bit rule ≡ true → match_of rule variant s.body value ≡ Some binds → width_at s.body value ≡ W8
+root_eight s rule variant value binds formed eight found =
+    first_met s.body rule.search variant (root_view s.body value) [] formed.one_search (walk_of s rule variant value binds formed eight found).widths
+
+-- the part of a typing for the search side, where each size is 8
+pub search_eight : (rule : Rule) → search_part rule (all_eight rule) ≡ replicate (size_of rule.search) W8
+search_eight rule = take-replicate (size_of rule.search) (size_of rule.search + size_of rule.replace) W8 (omega arith)
+
+module _ (s : Shader) (rule : Rule) (variant : ℕ) (value : ValueId) (kind : Kind) (binds : List Bind) (set : Set) (values : Values) (h : IsMatched s rule variant value kind binds set values) where
+  walk : IsWalk s rule variant value binds
+  walk = walk_of s rule variant value binds h.formed h.eight h.found
+
+  went : IsWalked s.body set values (component_count s.body value) rule.search (size_of rule.search) (root_view s.body value ∷ []) (replicate rule.vars None) walk.bound
+  went =
+      walked s h.shaped set values h.known h.fit (component_count s.body value) rule.search (size_of rule.search) variant (root_view s.body value ∷ []) (replicate rule.vars None) walk.bound
+      (omega arith) h.formed.search (IsEight-from_is_eight_bit rule h.eight).search (sym h.formed.one_search) (root_is_view s.body set value h.inside, tt) walk.widths walk.matched
+
+  each_bound : AreBound s.body set (component_count s.body value) walk.bound
+  each_bound =
+      are_bound s.body set (component_count s.body value) walk.bound
+      (λ var less. all_numbered (IsBound walk.bound) 0 rule.vars (vars_of rule.search) h.formed.numbered went.named (λ k l. absurd (omega (arith, l))) var (subst (λ n. var < n) (went.same ∙ length-replicate rule.vars None) less))
+      (went.views_kept (λ var view at. absurd (none_bound rule.vars var view at)))
+
+  pub match_count : length binds ≡ rule.vars
+  match_count = ap length (sym walk.binds_are) ∙ each_bound.long ∙ went.same ∙ length-replicate rule.vars None
+
+  -- each variable is bound to a view
+  pub match_views : AllByRecursion (IsView s.body set (component_count s.body value)) binds
+  match_views = subst (AllByRecursion (IsView s.body set (component_count s.body value))) walk.binds_are each_bound.views
+
+  -- as many views as the rule has variables, each of a value in the set
+  pub match_bound : (length binds ≡ rule.vars) × AllByRecursion (λ bind. set bind.value.0 ≡ true) binds
+  match_bound = (match_count, all_weaken (IsView s.body set (component_count s.body value)) (λ bind. set bind.value.0 ≡ true) binds (λ bind is. is.inside) match_views)
+
+  pub match_width : kind.width ≡ W8
+  match_width = kind_width s.body value kind h.kind_is (root_eight s rule variant value binds h.formed h.eight h.found)
+
+  pub root_count : component_count s.body value ≡ kind.count
+  root_count = ap (λ o. option_map_or (λ k. k.count) o 0) h.kind_is
+
+  agrees : (place : ℕ) → Agrees values place walk.bound (env binds values place)
+  agrees place var view at =
+      get_or_from_slice_get (env binds values place) var (at_place values place view) 0
+      (slice_get-map (at_place values place) binds var ∙ ap (option_map (at_place values place)) (ap (λ l. slice_get l var) (sym walk.binds_are) ∙ each_bound.each var view at))
+
+  said : (place : ℕ) → place < kind.count → Says values place rule.search (size_of rule.search) (root_view s.body value ∷ []) (env binds values place)
+  said place within = went.says (env binds values place) place (subst (λ n. place < n) (sym root_count) within) (agrees place)
+
+  -- in each place the variables have words of 8 bits that meet the conditions
+  pub match_words : (place : ℕ) → place < kind.count → (are_words rule (all_eight rule) (env binds values place) ≡ true) × (are_met rule (all_eight rule) (env binds values place) ≡ true)
+  match_words place within = (
+    ap (λ l. list_all (is_word (env binds values place)) (occurrences rule.search l)) (search_eight rule) ∙ (said place within).are_words,
+    ap (λ l. list_all (is_met (env binds values place)) (occurrences rule.search l)) (search_eight rule) ∙ (said place within).are_met,
+  )
+
+  -- and the search side has the component that stands there
+  pub match_value : (place : ℕ) → place < kind.count → values_of rule.search (search_part rule (all_eight rule)) (env binds values place) ≡ slice_index (values value.0) place ∷ []
+  match_value place within =
+      ap (λ l. values_of rule.search l (env binds values place)) (search_eight rule)
+      ∙ (said place within).equal
+      ∙ ap (λ c. slice_index (values value.0) c ∷ []) (get_or-range_with_len 0 (component_count s.body value) place 0 (subst (λ n. place < n) (sym root_count) within) ∙ omega arith)
