@@ -1,11 +1,12 @@
 -- A text that is too long is not of the form that is built.
-use Rattle.std.proofs.Common.{◌≡◌, ℕ, ◌<◌, ◌≤◌, List, ◌++◌, length, None, false, refl, ap, arith, length-append}
+use Rattle.std.proofs.Common.{◌≡◌, ℕ, ◌<◌, ◌≤◌, List, ◌++◌, length, None, refl, ap, arith, length-append}
 use Rattle.std.proofs.lemmas.Bool.{lt-leb}
-use Rattle.nir_opt.specs.FirstForm.{reads_no_rules, first_shader}
+use Rattle.nir_opt.specs.FirstForm.{first_shader}
+use Rattle.nir_opt.specs.FirstRules.{first_rules}
 
-pub no_rules-long : (text : List ℕ) → 65536 < length text → reads_no_rules text ≡ false
-unfolding reads_no_rules
-no_rules-long text long = rw (lt-leb (length text) 65536 long) refl
+pub first_rules-long : (text : List ℕ) → 65536 < length text → first_rules text ≡ None
+unfolding first_rules
+first_rules-long text long = rw (lt-leb (length text) 65536 long) refl
 
 pub first_shader-long : (text : List ℕ) → 65536 < length text → first_shader text ≡ None
 unfolding first_shader

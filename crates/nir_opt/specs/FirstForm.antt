@@ -1,11 +1,10 @@
--- The texts that are built so far: an empty rule list, and shaders of one block of 8-bit code.
-use Rattle.std.specs.Prelude.{ℕ, Bool, true, false, not, ◌&&◌, ◌++◌, List, [], ◌∷◌, length, map, Option, Some, None, Result, Ok, Err, nat_eq, nat_le, nat_lt, sum_by, is_none, if◌then◌else◌}
+-- The shader texts that are built so far: one block of 8-bit code.
+use Rattle.std.specs.Prelude.{ℕ, Bool, true, false, not, ◌++◌, List, [], ◌∷◌, length, map, Option, Some, None, Result, Ok, Err, nat_eq, nat_le, nat_lt, sum_by, is_none, bytes_eq, if◌then◌else◌}
 use Rattle.std.specs.List.{list_all, list_any}
 use Rattle.std.specs.Option.{option_to_list}
 use Rattle.nir_lex.specs.declared.fault.LexFault.{LexFault}
 use Rattle.nir_lex.specs.declared.token.Token.{Token}
-use Rattle.nir_lex.specs.declared.token.TokenKind.{TokenKind}
-use Rattle.nir_lex.specs.declared.token.TokenKind.TheVariants.{Word, Number, Name, Quoted, Punct, End}
+use Rattle.nir_lex.specs.Kinds.{is_mark}
 use Rattle.nir_lex.specs.Reading.{read_tokens}
 use Rattle.nir_ops.specs.declared.op.Op.{Op}
 use Rattle.nir_ops.specs.declared.op.Op.TheVariants.{Iadd, Isub, Mov}
@@ -14,6 +13,7 @@ use Rattle.nir_ops.specs.declared.width.Width.TheVariants.{W1, W8, W16, W32, W64
 use Rattle.nir_ir.specs.declared.ids.ValueId.{ValueId}
 use Rattle.nir_ir.specs.declared.instr.Instr.{Instr}
 use Rattle.nir_ir.specs.declared.instr.Instr.TheVariants.{Alu, Const, Undef, Input, Output, LoadBuf, StoreBuf}
+use Rattle.nir_ir.specs.declared.instr.Src.{Src}
 use Rattle.nir_ir.specs.declared.kind.Kind.{Kind}
 use Rattle.nir_ir.specs.declared.node.Block as block
 use Rattle.nir_ir.specs.declared.node.Phi.{Phi}
@@ -23,36 +23,6 @@ use Rattle.nir_ir.specs.Shader.{Shader}
 use Rattle.nir_text.specs.declared.fault.TextFault.{TextFault}
 use Rattle.nir_text.specs.Tree.{read_text}
 use Rattle.nir_search.specs.Weight.{value_count}
-
--- whether a token is this mark of punctuation, and whether it is the end
-abbrev pub is_mark : ℕ → TokenKind → Bool
-is_mark mark Word = false
-is_mark mark (Number value) = false
-is_mark mark Name = false
-is_mark mark Quoted = false
-is_mark mark (Punct byte) = nat_eq byte mark
-is_mark mark End = false
-
-abbrev pub is_end : TokenKind → Bool
-is_end Word = false
-is_end (Number value) = false
-is_end Name = false
-is_end Quoted = false
-is_end (Punct byte) = false
-is_end End = true
-
--- `[` and `]`
-abbrev pub is_empty_list : List Token → Bool
-is_empty_list (a ∷ b ∷ c ∷ []) = is_mark 91 a.kind && is_mark 93 b.kind && is_end c.kind
-is_empty_list _ = false
-
-abbrev pub lists_nothing : Result (List Token) LexFault → Bool
-lists_nothing (Ok tokens) = is_empty_list tokens
-lists_nothing (Err fault) = false
-
--- a rule text without a rule
-unfoldable pub reads_no_rules : List ℕ → Bool
-reads_no_rules text = if nat_le (length text) 65536 then lists_nothing (read_tokens text) else false
 
 abbrev pub is_w8 : Width → Bool
 is_w8 W1 = false
@@ -75,10 +45,14 @@ is_first_op _ = false
 abbrev pub is_among : List ℕ → ValueId → Bool
 is_among seen value = list_any (λ v. nat_eq v value.0) seen
 
+-- the first component, alone, of one of those
+abbrev pub src_fits : List ℕ → Src → Bool
+src_fits seen src = if bytes_eq src.swizzle (0 ∷ []) then is_among seen src.value else false
+
 -- An instruction of a block in which those values were defined before, in a shader with so many inputs and outputs.
 abbrev pub instr_fits : ℕ → ℕ → List ℕ → Instr → Bool
 instr_fits inputs outputs seen (Alu value op kind srcs) =
-    if is_w8x1 kind then (if is_first_op op then list_all (λ src. is_among seen src.value) srcs else false) else false
+    if is_w8x1 kind then (if is_first_op op then list_all (src_fits seen) srcs else false) else false
 instr_fits inputs outputs seen (Const value kind comps) = is_w8x1 kind
 instr_fits inputs outputs seen (Undef value kind) = false
 instr_fits inputs outputs seen (Input value kind slot) = if is_w8x1 kind then nat_lt slot inputs else false

@@ -1,16 +1,16 @@
 -- What it says of the text of a source how reading it ended.
-use Rattle.std.specs.Prelude.{◌≡◌, ℕ, Bool, false, List, [], Option, Some, None, Result, Ok, Err, IsTrue, ⊤}
+use Rattle.std.specs.Prelude.{◌≡◌, ℕ, List, [], Option, Some, None, Result, Ok, Err, ⊤}
 use Rattle.nir_ir.specs.Shader.{Shader}
 use Rattle.nir_opt.specs.declared.first_form.Built.{Built}
 use Rattle.nir_opt.specs.declared.texts.Refusal.{Refusal}
 use Rattle.nir_opt.specs.declared.texts.Refusal.TheVariants.{ReadFault, NotBuilt, OutOfMemory}
 
--- a rule text is built, is not, or was not looked at
-abbrev pub RulesAnswer : {A : Type 0} → Result A Refusal → Bool → Type 0
-RulesAnswer (Ok done) built = IsTrue built
-RulesAnswer (Err ReadFault) built = ⊤
-RulesAnswer (Err NotBuilt) built = built ≡ false
-RulesAnswer (Err OutOfMemory) built = ⊤
+-- a text has what was read of it, is not built, or was not looked at
+abbrev pub TextAnswer : {A : Type 0} → Result A Refusal → Option A → Type 0
+TextAnswer (Ok found) built = built ≡ Some found
+TextAnswer (Err ReadFault) built = ⊤
+TextAnswer (Err NotBuilt) built = built ≡ None
+TextAnswer (Err OutOfMemory) built = ⊤
 
 -- a shader text has this shader, is not built, or was not looked at
 abbrev pub ShaderAnswer : Result Built Refusal → Option Shader → Type 0

@@ -1,85 +1,27 @@
 //! Whether a text is of the form that is built.
 
-ghost use Rattle.std.specs.Prelude.{◌≡◌, ◌≤◌, ◌++◌, [], ◌∷◌, length, map, sum_by, if◌then◌else◌, is_some, IfOk, OnOk, IfSome, nat_eq, not};
+ghost use Rattle.std.specs.Prelude.{◌≡◌, ◌≤◌, ◌++◌, true, [], ◌∷◌, length, map, sum_by, if◌then◌else◌, is_some, IfOk, OnOk, IfSome, bytes_eq, nat_eq, not};
 ghost use Rattle.std.specs.List.{list_all, list_any};
 ghost use Rattle.std.specs.Option.{option_copied, option_map, option_to_list};
+ghost use Rattle.nir_lex.specs.Kinds.{is_mark};
 ghost use Rattle.nir_lex.specs.Reading.{read_tokens};
 ghost use Rattle.nir_ir.specs.Nodes.{nodes_of};
 ghost use Rattle.nir_search.specs.Weight.{weight_of, instr_weight};
-ghost use Rattle.nir_opt.specs.FirstForm.{is_mark, is_end, is_empty_list, reads_no_rules, is_w8x1, is_first_op, is_among, instr_fits, instrs_fit, block_fits, only_block, body_fits, is_first_form, has_no_dot, first_shader};
+ghost use Rattle.nir_opt.specs.FirstForm.{is_w8x1, is_first_op, is_among, src_fits, instr_fits, instrs_fit, block_fits, only_block, body_fits, is_first_form, has_no_dot, first_shader};
 
 use nir_host::OutOfMemory;
 use nir_ir::{Block, Instr, Kind, Node, Shader, Src, ValueId};
-use nir_lex::{LexFault, Token, TokenKind, tokens};
+use nir_lex::{LexFault, Token, tokens};
 use nir_ops::{Op, Width};
 use nir_search::count_instrs;
 use nir_text::{TextFault, read_shader};
 use std::alloc::Global;
 
 /// How many bytes a text may have.
-const MAX_TEXT: usize = 65_536;
+pub const MAX_TEXT: usize = 65_536;
 
 /// How many values a shader may have.
 const MAX_VALUES: u64 = 256;
-
-fn is_mark(kind: TokenKind, mark: u8) -> bool
-    ensures { result ≡ is_mark mark kind }
-{
-    match kind {
-        TokenKind::Punct { byte } => byte == mark,
-        TokenKind::Word
-        | TokenKind::Number { .. }
-        | TokenKind::Name
-        | TokenKind::Quoted
-        | TokenKind::End => false,
-    }
-}
-
-fn is_end(kind: TokenKind) -> bool
-    ensures { result ≡ is_end kind }
-{
-    match kind {
-        TokenKind::End => true,
-        TokenKind::Word
-        | TokenKind::Number { .. }
-        | TokenKind::Name
-        | TokenKind::Quoted
-        | TokenKind::Punct { .. } => false,
-    }
-}
-
-/// Whether the tokens are `[` and `]`.
-fn is_empty_list(list: &[Token]) -> bool
-    ensures { result ≡ is_empty_list list.now }
-{
-    match list {
-        [open, close, end] => {
-            if !is_mark(open.kind, b'[') {
-                return false;
-            }
-            if !is_mark(close.kind, b']') {
-                return false;
-            }
-            is_end(end.kind)
-        }
-        [] | [_] | [_, _] | [_, _, _, _, ..] => false,
-    }
-}
-
-/// Whether a rule text has no rule.
-#[tactic(auto, unfolding(crate::specs::FirstForm::reads_no_rules))]
-pub fn reads_no_rules(alloc: Global, text: &[u8]) -> Result<bool, OutOfMemory>
-    ensures { IfOk result (λ none. none ≡ reads_no_rules text.now) }
-{
-    if text.len() > MAX_TEXT {
-        return Ok(false);
-    }
-    match tokens(alloc, text) {
-        Ok(list) => Ok(is_empty_list(list.as_slice())),
-        Err(LexFault::OutOfMemory) => Err(OutOfMemory),
-        Err(LexFault::BadByte(_)) | Err(LexFault::BadNumber(_)) => Ok(false),
-    }
-}
 
 fn is_w8x1(kind: Kind) -> bool
     ensures { result ≡ is_w8x1 kind }
@@ -113,11 +55,21 @@ fn is_among(seen: &[u32], value: ValueId) -> bool
     seen.contains(&value.0)
 }
 
+/// Whether a source is the first component, alone, of one of those values.
+fn src_fits(seen: &[u32], src: &Src) -> bool
+    ensures { result ≡ src_fits seen.now src.now }
+{
+    if src.swizzle.as_slice() != [0].as_slice() {
+        return false;
+    }
+    is_among(seen, src.value)
+}
+
 fn are_among(seen: &[u32], srcs: &[Src]) -> bool
-    ensures { result ≡ list_all (λ src. is_among seen.now src.value) srcs.now }
+    ensures { result ≡ list_all (src_fits seen.now) srcs.now }
 {
     for src in srcs {
-        if !is_among(seen, src.value) {
+        if !src_fits(seen, src) {
             return false;
         }
     }
@@ -276,7 +228,7 @@ fn lacks_dot(list: &[Token]) -> bool
     ensures { result ≡ list_all (λ token. not (is_mark 46 token.kind)) list.now }
 {
     for token in list {
-        if is_mark(token.kind, b'.') {
+        if token.kind.is_mark(b'.') {
             return false;
         }
     }
@@ -296,6 +248,7 @@ pub fn first_shader(alloc: Global, text: &[u8]) -> Result<Option<Built>, OutOfMe
     ensures shader { IfOk result (λ built. option_map (λ b. b.shader) built ≡ first_shader text.now) }
     ensures weight { IfOk result (λ built. IfSome built (λ b. b.weight ≡ weight_of b.shader)) }
     ensures few { IfOk result (λ built. IfSome built (λ b. b.weight ≤ 256)) }
+    ensures form { IfOk result (λ built. IfSome built (λ b. is_first_form b.shader ≡ true)) }
 {
     if text.len() > MAX_TEXT {
         return Ok(None);

@@ -2,7 +2,9 @@
 #![tactic(auto)]
 
 mod first_form;
+mod first_rules;
 mod lines;
+mod optimise;
 mod run;
 mod status;
 #[cfg(test)]

@@ -5,9 +5,10 @@ ghost use Rattle.nir_opt.specs.Answers.{number_of};
 
 use nir_host::Which;
 use nir_ir::Journal;
+use rule_check::Refused;
 
 /// How a run ended. The numbers, the causes and the lines are in `docs/COMMANDS.md`.
-#[derive(Clone, Copy, Debug, PartialEq, Eq)]
+#[derive(Debug, Drop)]
 pub enum Status {
     /// The whole text was taken.
     Ok,
@@ -17,6 +18,8 @@ pub enum Status {
     ReadFault(Which),
     /// A fault of the output was counted; it took a front of the text.
     WriteFault,
+    /// The rule is not accepted; it is the first of its file that is not.
+    RuleRefused(Refused),
     /// That text is not of the form that is built.
     NotBuilt(Which),
     /// There was no memory.
@@ -25,14 +28,15 @@ pub enum Status {
 
 impl Status {
     /// The number with which the program ends.
-    pub fn number(self) -> u8
-        ensures { result ≡ number_of self }
+    pub fn number(&self) -> u8
+        ensures { result ≡ number_of self.now }
     {
         match self {
             Status::Ok => 0,
             Status::Usage => 2,
             Status::ReadFault(_) => 3,
             Status::WriteFault => 4,
+            Status::RuleRefused(_) => 6,
             Status::OutOfMemory => 10,
             Status::NotBuilt(_) => 12,
         }

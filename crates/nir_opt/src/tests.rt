@@ -2,10 +2,13 @@
 
 ghost use Rattle.std.specs.Prelude.{◌≡◌, ◌<◌};
 
+use crate::lines::refusal_line;
 use crate::run::run;
-use crate::status::{Report, Status};
-use nir_host::{Bytes, MemSink, MemSource, OutOfMemory, Seq, Which};
+use crate::status::Report;
+use nir_host::{Bytes, MemSink, MemSource, OutOfMemory, Seq};
+use nir_ir::{Step, ValueId};
 use nir_search::Steps;
+use rule_check::{Refused, RuleCause, Values};
 use std::alloc::Global;
 use std::marker::Brand;
 use std::process::Abort;
@@ -50,7 +53,26 @@ const DOT: &[u8] =
 const LATE: &[u8] =
     b"shader\ninputs [w8x1]\noutputs [w8x1]\nbuffers 0\n{\n  block b0 {\n    output @0, %0\n    %0 = input w8x1 @0\n  }\n}\n";
 
+/// The shader at 8 bits with a move of the input in the place of its addition.
+const MOVED: &[u8] =
+    b"shader\ninputs [w8x1]\noutputs [w8x1]\nbuffers 0\n{\n  block b0 {\n    %0 = input w8x1 @0\n    %1 = const w8x1 (0)\n    %2 = mov w8x1 %0\n    output @0, %2\n  }\n}\n";
+
+/// The shader at 8 bits with the operands the other way round.
+const SWAPPED: &[u8] =
+    b"shader\ninputs [w8x1]\noutputs [w8x1]\nbuffers 0\n{\n  block b0 {\n    %0 = input w8x1 @0\n    %1 = const w8x1 (0)\n    %2 = iadd w8x1 %1, %0\n    output @0, %2\n  }\n}\n";
+
+/// A sum of a sum, of which each adds 0.
+const TWICE: &[u8] =
+    b"shader\ninputs [w8x1]\noutputs [w8x1]\nbuffers 0\n{\n  block b0 {\n    %0 = input w8x1 @0\n    %1 = const w8x1 (0)\n    %2 = iadd w8x1 %0, %1\n    %3 = iadd w8x1 %1, %2\n    output @0, %3\n  }\n}\n";
+
+const TWICE_MOVED: &[u8] =
+    b"shader\ninputs [w8x1]\noutputs [w8x1]\nbuffers 0\n{\n  block b0 {\n    %0 = input w8x1 @0\n    %1 = const w8x1 (0)\n    %2 = mov w8x1 %0\n    %3 = mov w8x1 %2\n    output @0, %3\n  }\n}\n";
+
+/// What is added to 0 is what is there.
 const RULE: &[u8] = b"[(('iadd', 'a@8', 0), 'a'), by * cases]";
+
+/// A difference is not what it is taken from.
+const WRONG: &[u8] = b"[(('isub', 'a@8', 'b'), 'a'), by * cases]";
 
 const WORD: &[&[u8]] = &[b"r"];
 
@@ -96,19 +118,30 @@ fn uncounted(alloc: Global, given: &Given<'_>) -> Result<Left, OutOfMemory> {
     ran::<Brand>(alloc, given, Blank::new(1))
 }
 
-/// A case: what is given, the status, what `out` took, what `notes` took, and the limit.
-type Case<'a> = (Given<'a>, Status, &'a [u8], &'a [u8], u64);
+/// A case: what is given, the number of the status, what `out` took, what `notes` took, the limit, and the journal.
+type Case<'a> = (Given<'a>, u8, &'a [u8], &'a [u8], u64, &'a [Step]);
 
 /// Each case ends as it says.
 fn all_end(rt: &impl Abort, alloc: Global, cases: &[Case<'_>]) -> Result<(), OutOfMemory> {
     for case in cases {
         let left = uncounted(alloc, &case.0)?;
-        assert_eq!(rt; left.report.status, case.1);
+        assert_eq!(rt; left.report.status.number(), case.1);
         assert_eq!(rt; left.out.taken(), case.2);
         assert_eq!(rt; left.notes.taken(), case.3);
         assert_eq!(rt; left.report.limit, case.4);
+        assert_eq!(rt; left.report.journal.as_slice(), case.5);
+        assert_eq!(rt; left.report.rewrites, case.5.len() as u64);
     }
     Ok(())
+}
+
+/// A step by the first rule.
+fn step(value: u32, variant: u32) -> Step {
+    Step::Rule {
+        value: ValueId(value),
+        rule: 0,
+        variant,
+    }
 }
 
 /// A plain run with other words.
@@ -127,17 +160,17 @@ fn with_texts<'a>(rules: &'a [u8], shader: &'a [u8]) -> Given<'a> {
 
 #[test]
 fn shaders_of_the_first_form_are_printed(rt: HostRuntime) -> Result<(), Fail> {
-    let ok = Status::Ok;
     assert_eq!(rt; EMPTY_BLOCK.len(), 59);
     let cases: [Case; 3] = [
-        (PLAIN, ok, EMPTY_BLOCK, b"", 4096),
-        (with_texts(b"[]", ADD_ZERO), ok, ADD_ZERO, b"", 4097),
+        (PLAIN, 0, EMPTY_BLOCK, b"", 4096, &[]),
+        (with_texts(b"[]", ADD_ZERO), 0, ADD_ZERO, b"", 4097, &[]),
         (
             with_texts(b" [ # no rules\n]", FREE),
-            ok,
+            0,
             ADD_ZERO,
             b"",
             4097,
+            &[],
         ),
     ];
     all_end(&rt, rt.alloc(), &cases)?;
@@ -145,13 +178,94 @@ fn shaders_of_the_first_form_are_printed(rt: HostRuntime) -> Result<(), Fail> {
 }
 
 #[test]
+fn a_rule_is_used_until_it_matches_nowhere(rt: HostRuntime) -> Result<(), Fail> {
+    let double: &[u8] = b"[((iadd, \"a@8\", 0,), a,), by * cases,]";
+    let once: &[u8] = b"[(('iadd(is_used_once)', 'a@8', 0), 'a'), by * cases]";
+    let cases: [Case; 6] = [
+        (
+            with_texts(RULE, ADD_ZERO),
+            0,
+            MOVED,
+            b"",
+            4097,
+            &[step(2, 0)],
+        ),
+        (
+            with_texts(RULE, SWAPPED),
+            0,
+            MOVED,
+            b"",
+            4097,
+            &[step(2, 1)],
+        ),
+        (
+            with_texts(double, TWICE),
+            0,
+            TWICE_MOVED,
+            b"",
+            4098,
+            &[step(2, 0), step(3, 1)],
+        ),
+        (
+            with_texts(once, ADD_ZERO),
+            0,
+            MOVED,
+            b"",
+            4097,
+            &[step(2, 0)],
+        ),
+        (with_texts(RULE, MOVED), 0, MOVED, b"", 4096, &[]),
+        (
+            with_texts(RULE, EMPTY_BLOCK),
+            0,
+            EMPTY_BLOCK,
+            b"",
+            4096,
+            &[],
+        ),
+    ];
+    all_end(&rt, rt.alloc(), &cases)?;
+    Ok(())
+}
+
+#[test]
+fn a_rule_whose_sides_differ_is_refused(rt: HostRuntime) -> Result<(), Fail> {
+    let line: &[u8] = b"rules: rule 0 typing 0: cases differ at 0, 1\n";
+    let one: &[u8] = b"rules: rule 0 typing 0: cases differ at 0\n";
+    let off: &[u8] = b"[(('iadd', 'a@8', 1), 'a'), by * cases]";
+    let cases: [Case; 3] = [
+        (with_texts(WRONG, ADD_ZERO), 6, b"", line, 0, &[]),
+        (with_texts(WRONG, WIDE), 6, b"", line, 0, &[]),
+        (with_texts(off, ADD_ZERO), 6, b"", one, 0, &[]),
+    ];
+    all_end(&rt, rt.alloc(), &cases)?;
+    Ok(())
+}
+
+#[test]
+fn a_late_difference_is_told(rt: HostRuntime) -> Result<(), Fail> {
+    let mut values = Values::new();
+    values.push(255);
+    values.push(254);
+    let refused = Refused {
+        rule: 3,
+        typing: Some(0),
+        cause: RuleCause::Cases(values),
+    };
+    let line = refusal_line(rt.alloc(), &refused)?;
+    let told: &[u8] = b"rules: rule 3 typing 0: cases differ at 255, 254\n";
+    assert_eq!(rt; line.as_slice(), told);
+    Ok(())
+}
+
+#[test]
 fn words_without_a_reading_are_refused(rt: HostRuntime) -> Result<(), Fail> {
     let line: &[u8] = b"usage: nir_opt RULES [--limit=N] [--option=NAME] [--remarks] [--skip]\n";
     let cases: [Case; 4] = [
-        (with_words(&[]), Status::Usage, b"", line, 0),
-        (with_words(&[b"--skip"]), Status::Usage, b"", line, 0),
-        (with_words(&[b"r", b"--skip"]), Status::Usage, b"", line, 0),
-        (with_words(&[b"r", b"s"]), Status::Usage, b"", line, 0),
+        (with_words(&[]), 2, b"", line, 0, &[]),
+        (with_words(&[b"--skip"]), 2, b"", line, 0, &[]),
+        (with_words(&[b"r", b"--skip"]), 2, b"", line, 0, &[]),
+        (with_words(&[b"r", b"s"]), 2, b"", line, 0, &[]),
     ];
     all_end(&rt, rt.alloc(), &cases)?;
     Ok(())
@@ -159,19 +273,27 @@ fn words_without_a_reading_are_refused(rt: HostRuntime) -> Result<(), Fail> {
 
 #[test]
 fn other_texts_are_not_built(rt: HostRuntime) -> Result<(), Fail> {
-    let rules = Status::NotBuilt(Which::Rules);
-    let shader = Status::NotBuilt(Which::Shader);
-    let of_rules: &[u8] = b"not built: rules\n";
-    let of_shader: &[u8] = b"not built: shader\n";
+    let rules: &[u8] = b"not built: rules\n";
+    let shader: &[u8] = b"not built: shader\n";
     let cut: &[u8] = b"shader\ninputs []\noutputs []\nbuffers 0\n{\n  block b0 {\n  }\n";
-    let cases: [Case; 7] = [
-        (with_texts(RULE, EMPTY_BLOCK), rules, b"", of_rules, 0),
-        (with_texts(b"[]]", EMPTY_BLOCK), rules, b"", of_rules, 0),
-        (with_texts(RULE, WIDE), rules, b"", of_rules, 0),
-        (with_texts(b"[]", WIDE), shader, b"", of_shader, 0),
-        (with_texts(b"[]", DOT), shader, b"", of_shader, 0),
-        (with_texts(b"[]", LATE), shader, b"", of_shader, 0),
-        (with_texts(b"[]", cut), shader, b"", of_shader, 0),
+    let bare: &[u8] = b"[(('iadd', 'a', 0), 'a'), by * cases]";
+    let two: &[u8] =
+        b"[(('iadd', 'a@8', 0), 'a'), by * cases, (('isub', 'a@8', 0), 'a'), by * cases]";
+    let product: &[u8] = b"[(('imul', 'a@8', 1), 'a'), by * cases]";
+    let number: &[u8] = b"[(('isub', 'a@8', 'a'), 0), by * cases]";
+    let none: &[u8] = b"[(('iadd', 'a@8', 0), 'a')]";
+    let cases: [Case; 11] = [
+        (with_texts(b"[]]", EMPTY_BLOCK), 12, b"", rules, 0, &[]),
+        (with_texts(bare, WIDE), 12, b"", rules, 0, &[]),
+        (with_texts(two, WIDE), 12, b"", rules, 0, &[]),
+        (with_texts(product, WIDE), 12, b"", rules, 0, &[]),
+        (with_texts(number, WIDE), 12, b"", rules, 0, &[]),
+        (with_texts(none, WIDE), 12, b"", rules, 0, &[]),
+        (with_texts(RULE, WIDE), 12, b"", shader, 0, &[]),
+        (with_texts(b"[]", WIDE), 12, b"", shader, 0, &[]),
+        (with_texts(b"[]", DOT), 12, b"", shader, 0, &[]),
+        (with_texts(b"[]", LATE), 12, b"", shader, 0, &[]),
+        (with_texts(b"[]", cut), 12, b"", shader, 0, &[]),
     ];
     all_end(&rt, rt.alloc(), &cases)?;
     Ok(())
@@ -187,19 +309,15 @@ fn faults_end_a_run(rt: HostRuntime) -> Result<(), Fail> {
         shader_fail: &[0],
         ..PLAIN
     };
-    let no_room = Given { room: 10, ..PLAIN };
-    let of_rules = Status::ReadFault(Which::Rules);
-    let of_shader = Status::ReadFault(Which::Shader);
+    let no_room = Given {
+        room: 10,
+        ..with_texts(RULE, ADD_ZERO)
+    };
+    let front: &[u8] = b"shader\ninp";
     let cases: [Case; 3] = [
-        (no_rules, of_rules, b"", b"read failed: rules\n", 0),
-        (no_shader, of_shader, b"", b"read failed: shader\n", 0),
-        (
-            no_room,
-            Status::WriteFault,
-            b"shader\ninp",
-            b"write failed\n",
-            4096,
-        ),
+        (no_rules, 3, b"", b"read failed: rules\n", 0, &[]),
+        (no_shader, 3, b"", b"read failed: shader\n", 0, &[]),
+        (no_room, 4, front, b"write failed\n", 4097, &[step(2, 0)]),
     ];
     all_end(&rt, rt.alloc(), &cases)?;
     Ok(())

@@ -1,13 +1,16 @@
 //! The texts of the two sources, read to their ends.
 
-ghost use Rattle.std.specs.Prelude.{◌≡◌, ℕ, ◌≤◌, List, Some, IfOk, OnOk};
+ghost use Rattle.std.specs.Prelude.{◌≡◌, ℕ, ◌≤◌, true, List, Some, IfOk, OnOk};
 ghost use Rattle.nir_host.specs.Faults.{Rose};
 ghost use Rattle.nir_search.specs.Weight.{weight_of};
-ghost use Rattle.nir_opt.specs.FirstForm.{reads_no_rules, first_shader};
-ghost use Rattle.nir_opt.specs.Texts.{RulesAnswer, ShaderAnswer, OnReadFault, ReadsToEnd};
+ghost use Rattle.nir_opt.specs.FirstForm.{first_shader, is_first_form};
+ghost use Rattle.nir_opt.specs.FirstRules.{are_first_rules, first_rules};
+ghost use Rattle.nir_opt.specs.Texts.{TextAnswer, ShaderAnswer, OnReadFault, ReadsToEnd};
 
-use crate::first_form::{Built, first_shader, reads_no_rules};
+use crate::first_form::{Built, first_shader};
+use crate::first_rules::first_rules;
 use nir_host::{ReadAllFault, Source, read_all};
+use rule_read::RuleFile;
 use std::alloc::Global;
 
 /// How many bytes of rules are read.
@@ -27,9 +30,10 @@ pub enum Refusal {
     OutOfMemory,
 }
 
-/// Reads the rule text to its end, and finds it to be one without rules.
-pub fn read_rules<R: Source>(alloc: Global, rules: &mut R) -> Result<(), Refusal>
-    ensures text { (text : List ℕ) → R.left rules.old ≡ Some text → RulesAnswer result (reads_no_rules text) }
+/// Reads the rule text to its end, and finds its rules.
+pub fn read_rules_text<R: Source>(alloc: Global, rules: &mut R) -> Result<RuleFile, Refusal>
+    ensures text { (text : List ℕ) → R.left rules.old ≡ Some text → TextAnswer result (first_rules text) }
+    ensures form { IfOk result (λ file. are_first_rules file ≡ true) }
     ensures end { OnOk result (ReadsToEnd (R.left rules.old) (R.left rules.new)) }
     ensures fault { OnReadFault result (Rose (R.faults rules.old) (R.faults rules.new)) }
 {
@@ -39,9 +43,9 @@ pub fn read_rules<R: Source>(alloc: Global, rules: &mut R) -> Result<(), Refusal
         Err(ReadAllFault::TooLong) => return Err(Refusal::NotBuilt),
         Err(ReadAllFault::OutOfMemory) => return Err(Refusal::OutOfMemory),
     };
-    match reads_no_rules(alloc, text.as_slice()) {
-        Ok(true) => Ok(()),
-        Ok(false) => Err(Refusal::NotBuilt),
+    match first_rules(alloc, text.as_slice()) {
+        Ok(Some(file)) => Ok(file),
+        Ok(None) => Err(Refusal::NotBuilt),
         Err(_no_memory) => Err(Refusal::OutOfMemory),
     }
 }
@@ -53,6 +57,7 @@ pub fn read_shader_text<S: Source>(alloc: Global, shader: &mut S) -> Result<Buil
     ensures fault { OnReadFault result (Rose (S.faults shader.old) (S.faults shader.new)) }
     ensures weight { IfOk result (λ built. built.weight ≡ weight_of built.shader) }
     ensures few { IfOk result (λ built. built.weight ≤ 256) }
+    ensures form { IfOk result (λ built. is_first_form built.shader ≡ true) }
 {
     let text = match read_all(alloc, shader, MAX_SHADER) {
         Ok(text) => text,

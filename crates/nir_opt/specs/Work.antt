@@ -1,0 +1,47 @@
+-- What a run did that ended with the whole text or a front of it: which rules and which shader it read, and how each step of its journal made the shader that it printed.
+use Rattle.std.specs.Prelude.{◌≡◌, ◌+◌, ◌⊎◌, ℕ, true, false, List, [], length, Some}
+use Rattle.nir_ir.specs.declared.journal.Step.{Step}
+use Rattle.nir_ir.specs.Shader.{Shader}
+use Rattle.rule_term.specs.declared.when.Options.{Options}
+use Rattle.rule_read.specs.RuleFile.{RuleFile}
+use Rattle.rule_check.specs.declared.refused.Refused.{Refused}
+use Rattle.rule_check.specs.Accepted.{rules_of}
+use Rattle.nir_mean.specs.Same.{Same}
+use Rattle.nir_mean.specs.Valid.{Valid}
+use Rattle.nir_search.specs.Steps.{replay, is_settled}
+use Rattle.nir_search.specs.Weight.{weight_of}
+use Rattle.nir_opt.specs.declared.status.Report.{Report}
+use Rattle.nir_opt.specs.declared.status.Status.{Status}
+use Rattle.nir_opt.specs.declared.status.Status.TheVariants.{RuleRefused, OutOfMemory}
+use Rattle.nir_opt.specs.FirstForm.{first_shader}
+use Rattle.nir_opt.specs.FirstRules.{first_rules}
+
+-- no option is set
+abbrev pub no_options : Options
+no_options = record { names = [] }
+
+-- the last shader of a run over these two texts, with this journal, so many rewrites and this limit on them
+pub record IsWork (rules shader : List ℕ) (journal : List Step) (rewrites limit : ℕ) (last : Shader) : Type 0 where
+  pub file : RuleFile
+  pub read : Shader
+  pub rules_read : first_rules rules ≡ Some file
+  pub shader_read : first_shader shader ≡ Some read
+  -- each step is the first match at its value, in its turn
+  pub replayed : replay no_options (rules_of file.entries) read journal ≡ Some last
+  -- nothing is left to do
+  pub settled : is_settled no_options (rules_of file.entries) last ≡ true
+  pub counted : rewrites ≡ length journal
+  -- each step leaves one opcode other than mov fewer
+  pub fewer : weight_of last + rewrites ≡ weight_of read
+  pub limited : limit ≡ weight_of read + 4096
+  -- it is valid, and means what the one that was read means
+  pub valid : Valid last
+  pub same : Same read last
+
+-- a report of no work
+abbrev pub idle : Status → Report
+idle status = record { status = status; journal = []; rewrites = 0; limit = 0; stopped = false; place = 0 }
+
+-- the report for a rule that is not accepted, unless there was no memory for its line
+abbrev pub IsRefusal : Refused → Report → Type 0
+IsRefusal rule report = (report ≡ idle (RuleRefused rule)) ⊎ (report ≡ idle OutOfMemory)
