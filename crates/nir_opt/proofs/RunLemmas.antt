@@ -5,6 +5,7 @@ use Rattle.std.proofs.lemmas.Bool.{and_from, and_parts, true≢false}
 use Rattle.std.specs.List.{list_all}
 use Rattle.nir_ir.specs.declared.journal.Step.{Step}
 use Rattle.nir_ir.specs.Shader.{Shader}
+use Rattle.nir_ir.specs.Shaped.{IsShaped}
 use Rattle.rule_term.specs.EightBit.{is_eight_bit}
 use Rattle.rule_term.specs.Rule.{Rule}
 use Rattle.rule_term.specs.Terms.{Terms, Nil, VarThen, LitThen, AppThen}
@@ -59,9 +60,9 @@ all_built (entry ∷ rest) eight sums =
 pub work_is : (rules shader : List ℕ) (file : RuleFile) (read last : Shader) (table : List Rule) (names : List (List ℕ)) (journal : List Step) (rewrites weight : ℕ)
     → first_rules rules ≡ Some file → first_shader shader ≡ Some read → names ≡ [] → table ≡ rules_of file.entries
     → replay (record { names = names }) table read journal ≡ Some last → is_settled (record { names = names }) table last ≡ true
-    → rewrites ≡ length journal → weight_of last + rewrites ≡ weight_of read → weight ≡ weight_of read → Valid last → Same read last
+    → rewrites ≡ length journal → weight_of last + rewrites ≡ weight_of read → weight ≡ weight_of read → IsShaped last → Valid last → Same read last
     → IsWork rules shader journal rewrites (weight + 4096) last
-work_is rules shader file read last table names journal rewrites weight rules_read shader_read none same replayed settled counted fewer weighs valid same_meaning = record {
+work_is rules shader file read last table names journal rewrites weight rules_read shader_read none same replayed settled counted fewer weighs shaped valid same_meaning = record {
   file = file;
   read = read;
   rules_read = rules_read;
@@ -71,6 +72,7 @@ work_is rules shader file read last table names journal rewrites weight rules_re
   counted = counted;
   fewer = fewer;
   limited = ap (λ w. w + 4096) weighs;
+  shaped = shaped;
   valid = valid;
   same = same_meaning;
 }

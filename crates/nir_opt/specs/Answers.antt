@@ -64,6 +64,18 @@ abbrev pub which_text : Which → List ℕ
 which_text Rules = codes "rules"
 which_text Shader = codes "shader"
 
+-- a status that was found before the shader was read
+abbrev pub is_of_rules : Status → Bool
+is_of_rules status.Ok = false
+is_of_rules Usage = true
+is_of_rules (ReadFault Rules) = true
+is_of_rules (ReadFault Shader) = false
+is_of_rules WriteFault = false
+is_of_rules (RuleRefused refused) = true
+is_of_rules (NotBuilt Rules) = true
+is_of_rules (NotBuilt Shader) = false
+is_of_rules OutOfMemory = false
+
 -- the whole text was taken, or there was no memory
 abbrev pub EndsWell : Status → Type 0
 EndsWell status.Ok = ⊤

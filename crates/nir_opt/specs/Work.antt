@@ -2,6 +2,7 @@
 use Rattle.std.specs.Prelude.{◌≡◌, ◌+◌, ◌⊎◌, ℕ, true, false, List, [], length, Some}
 use Rattle.nir_ir.specs.declared.journal.Step.{Step}
 use Rattle.nir_ir.specs.Shader.{Shader}
+use Rattle.nir_ir.specs.Shaped.{IsShaped}
 use Rattle.rule_term.specs.declared.when.Options.{Options}
 use Rattle.rule_read.specs.RuleFile.{RuleFile}
 use Rattle.rule_check.specs.declared.refused.Refused.{Refused}
@@ -34,7 +35,8 @@ pub record IsWork (rules shader : List ℕ) (journal : List Step) (rewrites limi
   -- each step leaves one opcode other than mov fewer
   pub fewer : weight_of last + rewrites ≡ weight_of read
   pub limited : limit ≡ weight_of read + 4096
-  -- it is valid, and means what the one that was read means
+  -- it is shaped and valid, and means what the one that was read means
+  pub shaped : IsShaped last
   pub valid : Valid last
   pub same : Same read last
 

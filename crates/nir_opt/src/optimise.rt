@@ -7,6 +7,7 @@ ghost use Rattle.nir_search.specs.Weight.{weight_of};
 ghost use Rattle.rewrite_pass.specs.Built.{is_built};
 ghost use Rattle.rule_term.specs.Table.{AllHold};
 ghost use Rattle.rule_meaning.specs.StepSame.{AllFormed};
+ghost use Rattle.nir_ir.specs.Shaped.{IsShaped};
 ghost use Rattle.nir_mean.specs.Same.{Same};
 ghost use Rattle.nir_mean.specs.Valid.{Valid};
 ghost use Rattle.nir_opt.specs.FirstForm.{is_first_form};
@@ -55,6 +56,7 @@ pub fn optimise<L: Ledger>(
     ensures settled { IfOk result (λ done. is_settled options.now table.now done.shader ≡ true) }
     ensures counted { IfOk result (λ done. done.rewrites ≡ length done.journal) }
     ensures fewer { IfOk result (λ done. weight_of done.shader + done.rewrites ≡ weight_of shader) }
+    ensures shaped { IfOk result (λ done. IsShaped done.shader) }
     ensures valid { IfOk result (λ done. Valid done.shader) }
     ensures same { IfOk result (λ done. Same shader done.shader) }
 {

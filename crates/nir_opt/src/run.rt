@@ -6,7 +6,7 @@ ghost use Rattle.nir_host.specs.Told.{Gains};
 ghost use Rattle.nir_host.specs.Whole.{TakesFront};
 ghost use Rattle.nir_ir.specs.Shader.{Shader};
 ghost use Rattle.nir_print.specs.Text.{text_of};
-ghost use Rattle.nir_opt.specs.Answers.{AreAccepted, EndsWell, has_plain_line, has_reading, RulesFit, ShaderFits, line_of};
+ghost use Rattle.nir_opt.specs.Answers.{AreAccepted, EndsWell, has_plain_line, is_of_rules, has_reading, RulesFit, ShaderFits, line_of};
 ghost use Rattle.nir_opt.specs.FirstForm.{first_shader};
 ghost use Rattle.nir_opt.specs.FirstRules.{first_rules};
 ghost use Rattle.nir_opt.specs.Texts.{ReadsToEnd};
@@ -62,6 +62,7 @@ pub fn run<R: Source, S: Source, K: Sink, N: Sink, L: Ledger>(
 
     // What was read.
     ensures nothing_read { result.status ≡ Status.Usage → (R.left rules.new ≡ R.left rules.old) × (S.left shader.new ≡ S.left shader.old) }
+    ensures shader_unread { is_of_rules result.status ≡ true → S.left shader.new ≡ S.left shader.old }
     ensures rules_end { result.status ≡ Status.Ok → ReadsToEnd (R.left rules.old) (R.left rules.new) }
     ensures shader_end { result.status ≡ Status.Ok → ReadsToEnd (S.left shader.old) (S.left shader.new) }
 

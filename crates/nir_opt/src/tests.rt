@@ -8,7 +8,8 @@ use crate::status::Report;
 use nir_host::{Bytes, MemSink, MemSource, OutOfMemory, Seq};
 use nir_ir::{Step, ValueId};
 use nir_search::Steps;
-use rule_check::{Refused, RuleCause, Values};
+use rule_check::{CheckFault, check_file, is_ready};
+use rule_read::read_rules;
 use std::alloc::Global;
 use std::marker::Brand;
 use std::process::Abort;
@@ -242,18 +243,24 @@ fn a_rule_whose_sides_differ_is_refused(rt: HostRuntime) -> Result<(), Fail> {
     Ok(())
 }
 
+/// The line for the first rule of a text that is not accepted.
+fn refusal_of(alloc: Global, text: &[u8]) -> Result<Bytes, Fail> {
+    let file = read_rules(alloc, text)?.ok_or("a reading")?;
+    if !is_ready(&file) {
+        return Ok(Bytes::new(alloc));
+    }
+    match check_file(alloc, file) {
+        Ok(_table) => Ok(Bytes::new(alloc)),
+        Err(CheckFault::Refused(refused)) => Ok(refusal_line(alloc, &refused)?),
+        Err(CheckFault::OutOfMemory) => Ok(Bytes::new(alloc)),
+    }
+}
+
 #[test]
 fn a_late_difference_is_told(rt: HostRuntime) -> Result<(), Fail> {
-    let mut values = Values::new();
-    values.push(255);
-    values.push(254);
-    let refused = Refused {
-        rule: 3,
-        typing: Some(0),
-        cause: RuleCause::Cases(values),
-    };
-    let line = refusal_line(rt.alloc(), &refused)?;
-    let told: &[u8] = b"rules: rule 3 typing 0: cases differ at 255, 254\n";
+    let text: &[u8] = b"[(('umin', ('iand', 'a@8', 'b'), 254), ('iand', 'a', 'b')), by * cases]";
+    let line = refusal_of(rt.alloc(), text)?;
+    let told: &[u8] = b"rules: rule 0 typing 0: cases differ at 255, 255\n";
     assert_eq!(rt; line.as_slice(), told);
     Ok(())
 }

@@ -25,7 +25,7 @@ returns-in-Ok-write_all-clause-printed g c = λ ok rule_text shader_text told_ru
       (work_is rule_text shader_text c.in-Ok.file c.in-Ok-read_shader_text.built.shader c.in-Ok-optimise.done.shader c.in-Ok-check_file.table c.new.result c.in-Ok-optimise.done.journal c.in-Ok-optimise.done.rewrites c.in-Ok-read_shader_text.built.weight
       (c.in-Ok.ensures.text rule_text told_rules) (c.in-Ok-read_shader_text.ensures.text shader_text told_shader) c.new.ensures c.in-Ok-check_file.ensures.verdict.1
       c.in-Ok-optimise.ensures.replayed c.in-Ok-optimise.ensures.settled c.in-Ok-optimise.ensures.counted c.in-Ok-optimise.ensures.fewer c.in-Ok-read_shader_text.ensures.weight
-      c.in-Ok-optimise.ensures.valid c.in-Ok-optimise.ensures.same),
+      c.in-Ok-optimise.ensures.shaped c.in-Ok-optimise.ensures.valid c.in-Ok-optimise.ensures.same),
   λ taken before. c.in-Ok-write_all.ensures.ok taken before ∙ ap (λ (t : List ℕ). Some (taken ++ t)) (c.as_slice.ensures ∙ c.in-Ok-print_shader.ensures),
 )
 
@@ -36,7 +36,7 @@ returns-clause-prefix g c = λ status rule_text shader_text told_rules told_shad
       (work_is rule_text shader_text c.in-Ok.file c.in-Ok-read_shader_text.built.shader c.in-Ok-optimise.done.shader c.in-Ok-check_file.table c.new.result c.in-Ok-optimise.done.journal c.in-Ok-optimise.done.rewrites c.in-Ok-read_shader_text.built.weight
       (c.in-Ok.ensures.text rule_text told_rules) (c.in-Ok-read_shader_text.ensures.text shader_text told_shader) c.new.ensures c.in-Ok-check_file.ensures.verdict.1
       c.in-Ok-optimise.ensures.replayed c.in-Ok-optimise.ensures.settled c.in-Ok-optimise.ensures.counted c.in-Ok-optimise.ensures.fewer c.in-Ok-read_shader_text.ensures.weight
-      c.in-Ok-optimise.ensures.valid c.in-Ok-optimise.ensures.same),
+      c.in-Ok-optimise.ensures.shaped c.in-Ok-optimise.ensures.valid c.in-Ok-optimise.ensures.same),
   let P : List ℕ → Type 0 = λ t. TakesFront before (g.K.Sink.taken c.write_all.new.sink) t in
       subst P (c.as_slice.ensures ∙ c.in-Ok-print_shader.ensures) (c.in-Err.ensures.prefix before taken),
 )
