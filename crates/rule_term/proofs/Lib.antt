@@ -1,4 +1,5 @@
 pub mod BuildLemmas
+pub mod DescendingLemmas
 pub mod EightLemmas
 pub mod FormedLemmas
 pub mod LiteralLemmas
@@ -6,6 +7,14 @@ pub mod NodesLemmas
 pub mod OpcodeLemmas
 pub mod PlaceLemmas
 pub mod ReadyLemmas
+pub mod ReplaceExact
+pub mod ReplaceFirst
+pub mod ReplaceKnown
+pub mod ReplaceRoots
+pub mod ReplaceSizes
+pub mod ReplaceSteps
+pub mod ReplaceTypings
 pub mod SideLemmas
 pub mod SizeLemmas
 pub mod SourcesLemmas
+pub mod WeightLemmas

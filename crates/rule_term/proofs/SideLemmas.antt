@@ -76,7 +76,7 @@ replace_piece vars (VarPiece var constant size cond) h =
 replace_piece vars (LitPiece value boolean) h = (refl, refl)
 replace_piece vars (AppPiece op size once sources) h = ((and_parts _ _ h).0, refl)
 
-replace_pieces : (vars : ℕ) (list : List Piece) → list_all (replace_piece_formed vars) list ≡ true → (list_all (piece_ready vars) list ≡ true) × (list_all (λ var. nat_lt var vars) (flat_map var_of list) ≡ true)
+pub replace_pieces : (vars : ℕ) (list : List Piece) → list_all (replace_piece_formed vars) list ≡ true → (list_all (piece_ready vars) list ≡ true) × (list_all (λ var. nat_lt var vars) (flat_map var_of list) ≡ true)
 replace_pieces vars [] h = (refl, refl)
 replace_pieces vars (p ∷ rest) h =
     let formed = and_parts (replace_piece_formed vars p) (list_all (replace_piece_formed vars) rest) h in
@@ -124,7 +124,7 @@ words_among values vars list (o ∷ others) are covered like words =
     and_from (is_word values o) (list_all (is_word values) others) (word_among values list o here parts.0 words) (words_among values vars list others are there.1 parts.1 words)
 
 -- variables that are below the number stand among those that are numbered up to it
-covered : (vars : ℕ) (list : List ℕ) → numbered 0 vars list ≡ true → (others : List Occurrence) → list_all (λ var. nat_lt var vars) (map (λ o. o.var) others) ≡ true → list_all (λ o. list_any (nat_eq o.var) list) others ≡ true
+pub covered : (vars : ℕ) (list : List ℕ) → numbered 0 vars list ≡ true → (others : List Occurrence) → list_all (λ var. nat_lt var vars) (map (λ o. o.var) others) ≡ true → list_all (λ o. list_any (nat_eq o.var) list) others ≡ true
 covered vars list h [] below = refl
 covered vars list h (o ∷ others) below =
     let parts = and_parts (nat_lt o.var vars) (list_all (λ var. nat_lt var vars) (map (λ o. o.var) others)) below in

@@ -110,7 +110,7 @@ no_roots (VarThen var constant size cond rest) widths none = absurd (omega arith
 no_roots (LitThen value boolean rest) widths none = absurd (omega arith)
 no_roots (AppThen op size once args rest) widths none = absurd (omega arith)
 
-one_root : (terms : Terms) (widths : List Width) → terms_count terms ≡ 1 → roots terms widths ≡ first_of widths ∷ []
+pub one_root : (terms : Terms) (widths : List Width) → terms_count terms ≡ 1 → roots terms widths ≡ first_of widths ∷ []
 one_root Nil widths one = absurd (omega arith)
 one_root (VarThen var constant size cond rest) widths one = ap (λ t. first_of widths ∷ t) (no_roots rest (drop 1 widths) (suc_inj one))
 one_root (LitThen value boolean rest) widths one = ap (λ t. first_of widths ∷ t) (no_roots rest (drop 1 widths) (suc_inj one))

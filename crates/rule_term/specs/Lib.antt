@@ -1,4 +1,6 @@
 pub mod Conditions
+pub mod Descending
+pub mod DescendingWorked
 pub mod EightBit
 pub mod EightBitLaws
 pub mod EightBitTypings
@@ -11,6 +13,9 @@ pub mod OneTyping
 pub mod Options
 pub mod Pieces
 pub mod Ready
+pub mod ReplaceLeast
+pub mod ReplaceWorked
+pub mod Replaced
 pub mod Rule
 pub mod Sides
 pub mod Sizes
@@ -20,4 +25,5 @@ pub mod Table
 pub mod Terms
 pub mod Typed
 pub mod Typings
+pub mod Weights
 pub mod Worked

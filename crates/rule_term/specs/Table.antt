@@ -1,10 +1,26 @@
--- Tables of rules: each rule holds, and the numbers of the rules rise.
-use Rattle.std.specs.Prelude.{◌≡◌, ◌<◌, ◌≤◌, ◌+◌, ◌^◌, ℕ, zero, suc, List, [], ◌∷◌, ◌++◌, length, Some, slice_get}
+-- Tables: rules, each of which holds and whose numbers rise, and a weight for each opcode.
+use Rattle.std.specs.Prelude.{refl, ◌≡◌, ◌<◌, ◌≤◌, ◌+◌, ◌^◌, ℕ, zero, suc, List, [], ◌∷◌, ◌++◌, length, Some, slice_get}
 use Rattle.std.proofs.Common.{subst, arith}
 use Rattle.std.proofs.lemmas.List.{length-append}
 use Rattle.std.proofs.lemmas.Option.{none-some, same_Some}
-use Rattle.rule_term.specs.Rule.{Rule}
+use Rattle.std.specs.Coded.{Coded, code_by, coded_list, coded×, coded_ℕ}
+use Rattle.nir_ops.specs.declared.op.Op.{Op}
+use Rattle.rule_term.specs.Rule.{Rule, rule_code}
 use Rattle.rule_term.specs.Holds.{Holds}
+use Rattle.rule_term.specs.Weights.{weight_at}
+
+-- the rules in the order in which they are tried, and the weights in the order of the opcodes
+pub record Table : Type 0 where
+  pub rules : List Rule
+  pub weights : List ℕ
+
+-- a table is stored as the pair of its parts
+abbrev pub table_code : Coded Table
+table_code = code_by (List Rule × List ℕ) (coded× (coded_list rule_code) (coded_list coded_ℕ)) (λ t. (t.rules, t.weights)) (λ p. record { rules = p.0; weights = p.1 }) (λ _. refl)
+
+-- what an opcode weighs in a table
+abbrev pub op_weight : Table → Op → ℕ
+op_weight table op = weight_at table.weights op
 
 abbrev pub AllHold : List Rule → Type 0
 AllHold [] = Unit {0}

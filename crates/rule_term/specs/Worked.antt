@@ -1,7 +1,7 @@
 -- Two rules worked out by hand: one at 8 bits with two variables and a negative number, and one that has its sides equal.
-use Rattle.std.specs.Prelude.{◌≡◌, refl, ◌<◌, ◌^◌, ℕ, negsuc, true, false, ◌&&◌, Some, None, [], ◌∷◌, nat_lt, replicate}
-use Rattle.std.proofs.lemmas.Bool.{and_from, lt-ltb}
-use Rattle.std.proofs.Common.{lit≤}
+use Rattle.std.specs.Prelude.{◌≡◌, refl, ◌<◌, ◌^◌, ℕ, pos, negsuc, slice_index_or, true, false, ◌&&◌, Some, None, [], ◌∷◌, nat_lt, replicate}
+use Rattle.std.proofs.lemmas.Bool.{and_from, and_parts, lt-ltb, ltb-true}
+use Rattle.std.proofs.Common.{ap, arith, lit≤}
 use Rattle.nir_ops.specs.declared.op.Op.TheVariants.{Iadd, Isub, Ineg}
 use Rattle.nir_ops.specs.declared.width.Width.TheVariants.{W8, W32}
 use Rattle.nir_ops.specs.Opcodes.{op_info, op_allows, row_of}
@@ -98,3 +98,40 @@ same_eight = refl
 pub same_holds : Holds same
 unfolding same
 same_holds = eight_holds same same_formed same_eight (λ values count words met. refl)
+
+-- from (iadd a@8 0) to a, as rule 4
+unfoldable pub neutral : Rule
+neutral = record {
+  number = 4;
+  search = AppThen Iadd None false (VarThen 0 false (Some W8) None (LitThen (pos 0) false Nil)) Nil;
+  replace = VarThen 0 false None None Nil;
+  when = Always;
+  vars = 1;
+}
+
+pub neutral_formed : IsFormed neutral
+unfolding neutral may_stand shape_of op_info row_of
+neutral_formed = record {
+  application = refl;
+  one_search = refl;
+  one_replace = refl;
+  search = refl;
+  replace = refl;
+  numbered = refl;
+  few_vars = lit≤ tt;
+  few_search = lit≤ tt;
+  few_replace = lit≤ tt;
+}
+
+neutral_eight : is_eight_bit neutral ≡ true
+unfolding neutral is_eight_bit is_unsized op_allows op_info row_of
+neutral_eight = refl
+
+nothing_more : (a : ℕ) → a < 2 ^ 8 → op_mean Iadd 8 8 (a ∷ 0 ∷ []) ≡ a
+unfolding op_mean meaning residue
+nothing_more a small = omega (arith, small)
+
+pub neutral_holds : Holds neutral
+unfolding neutral op_info row_of unsized_width residue
+neutral_holds = eight_holds neutral neutral_formed neutral_eight (λ values count words met.
+    ap (λ v. v ∷ []) (nothing_more (slice_index_or values 0 0) (ltb-true (slice_index_or values 0 0) (2 ^ 8) (and_parts (nat_lt (slice_index_or values 0 0) (2 ^ 8)) true words).0)))

@@ -2,10 +2,15 @@
 #![tactic(auto)]
 
 mod cond;
+mod descending;
 mod eight;
 mod formed;
 mod nodes;
+mod replace;
+#[cfg(test)]
+mod replace_tests;
 mod rule;
+mod search_sizes;
 mod side;
 mod table;
 mod term;
@@ -14,9 +19,11 @@ mod tests;
 mod typing;
 mod value;
 mod when;
+mod width_set;
 
 pub use cond::{Cond, cond_holds};
 pub use formed::formed_is_tested;
+pub use replace::{ReplaceWidths, replace_widths};
 pub use rule::Rule;
 pub use side::{Side, eval_term};
 pub use table::Table;

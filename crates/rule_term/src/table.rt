@@ -1,43 +1,54 @@
-//! Tables of rules that hold.
+//! Tables of rules that hold, with the weights of opcodes.
 
-ghost use Rattle.std.specs.Prelude.{◌≡◌, ◌<◌, ◌≤◌, ◌^◌, [], ◌∷◌, ◌++◌, length, slice_get, Some, OnOk, OnErr};
+ghost use Rattle.std.specs.Prelude.{◌≡◌, ◌≢◌, ◌<◌, ◌≤◌, ◌^◌, [], ◌∷◌, ◌++◌, length, slice_get, Some, OnOk, OnErr};
+ghost use Rattle.nir_ops.specs.declared.op.Op.{Op as Opcode};
+ghost use Rattle.nir_ops.specs.declared.op.Op.TheVariants.{Mov};
 ghost use Rattle.rule_term.specs.Holds.{Holds};
-ghost use Rattle.rule_term.specs.Table.{AllBelow};
+ghost use Rattle.rule_term.specs.Table.{AllBelow, op_weight};
+ghost use Rattle.rule_term.specs.Weights.{place_of, weight_at, initial_weight, IsWeighed};
 
 use crate::rule::Rule;
 use nir_host::{OutOfMemory, Seq};
+use nir_ops::Op;
 use std::alloc::Global;
 use std::marker::Model;
 
-/// Rules in the order in which they are tried. Its type keeps that each of them holds
-/// (`specs/Holds.antt`), and that their numbers rise. Contracts see the list of the rules.
+/// Rules in the order in which they are tried, and a weight for each opcode. Its type keeps that each rule
+/// holds (`specs/Holds.antt`), that their numbers rise, and that no weight is above 60 and that of a move is 0.
+/// Contracts see the list of the rules and that of the weights.
 #[derive(Debug, Drop)]
 pub struct Table {
     rules: Seq<Rule>,
+    weights: [u8; OPCODES],
 }
 
+/// How many opcodes there are.
+const OPCODES: usize = 88;
+
 impl Model for Table {
-    ghost use Rattle.std.specs.Prelude.{List};
-    ghost use Rattle.std.specs.Coded.{coded_list};
-    ghost use Rattle.rule_term.specs.Rule.{Rule as Whole, rule_code};
+    ghost use Rattle.rule_term.specs.Table.{Table as Whole, table_code};
+
+    ghost Value = { Whole };
+
+    ghost coded = { table_code };
+
     ghost use Rattle.rule_term.specs.Table.{IsTable};
+    ghost use Rattle.rule_term.specs.Weights.{IsWeighed};
 
-    ghost Value = { List Whole };
+    ghost view = { λ t. record { rules = t.rules; weights = t.weights } };
 
-    ghost coded = { coded_list rule_code };
-
-    ghost view = { λ t. t.rules };
-
-    ghost invariant = { λ t. IsTable t.rules };
+    ghost invariant = { λ t. IsTable t.rules × IsWeighed t.weights };
 }
 
 impl Table {
-    /// The table of no rules, which takes no memory.
+    /// The table of no rules, in which each opcode weighs 1, and a move nothing. It takes no memory.
     pub fn new(alloc: Global) -> Table
-        ensures { result ≡ [] }
+        ensures rules { result.rules ≡ [] }
+        ensures weights { (op : Opcode) → op_weight result op ≡ initial_weight op }
     {
         Table {
             rules: Seq::new(alloc),
+            weights: initial_weights(),
         }
     }
 
@@ -45,18 +56,49 @@ impl Table {
     /// is as it was, and the rule is dropped.
     pub fn add(&mut self, rule: Rule) -> Result<(), OutOfMemory>
         requires holds { Holds rule }
-        requires greater { AllBelow rule.number self.old }
-        ensures ok { OnOk result (self.new ≡ self.old ++ rule ∷ []) }
-        ensures err { OnErr result (self.new ≡ self.old) }
+        requires greater { AllBelow rule.number self.old.rules }
+        ensures ok { OnOk result (self.new.rules ≡ self.old.rules ++ rule ∷ []) }
+        ensures err { OnErr result (self.new.rules ≡ self.old.rules) }
+        ensures weights { self.new.weights ≡ self.old.weights }
     {
         // The proof learns that the number is one of 32 bits, so that there are not more rules.
         let _number = rule.number;
         self.rules.push(rule)
     }
 
+    /// Gives the opcode, which is no move, another weight.
+    #[tactic(auto, using(crate::proofs::WeightLemmas::set_here, crate::proofs::WeightLemmas::weighed_set))]
+    pub fn set_weight(&mut self, op: Op, weight: u8)
+        requires ordinary { op ≢ Mov }
+        requires few { weight ≤ 60 }
+        ensures set { op_weight self.new op ≡ weight }
+        ensures others { (other : Opcode) → other ≢ op → op_weight self.new other ≡ op_weight self.old other }
+        ensures rules { self.new.rules ≡ self.old.rules }
+    {
+        self.weights[place_of(op)] = weight;
+    }
+
+    /// What the opcode weighs.
+    #[tactic(auto, using(crate::proofs::WeightLemmas::weight_is_few))]
+    pub fn weight(&self, op: Op) -> u8
+        ensures value { result ≡ op_weight self.now op }
+        ensures few { result ≤ 60 }
+        ensures mov { op ≡ Mov → result ≡ 0 }
+    {
+        self.weights[place_of(op)]
+    }
+
+    /// No weight is above 60, and that of a move is 0: the type keeps it.
+    pub fn weights_are_few(&self)
+        ensures few { (op : Opcode) → op_weight self.now op ≤ 60 }
+        ensures mov { op_weight self.now Mov ≡ 0 }
+    {
+        let _weights = &self.weights;
+    }
+
     /// How many rules the table has: at most 2^32, since their numbers rise.
     pub fn len(&self) -> u64
-        ensures count { result ≡ length self.now }
+        ensures count { result ≡ length self.now.rules }
         ensures few { result ≤ 2 ^ 32 }
     {
         self.rules.len() as u64
@@ -64,10 +106,29 @@ impl Table {
 
     /// The rule at a place, which is below the number of rules.
     pub fn rule(&self, place: u32) -> &Rule
-        requires { place < length self.now }
-        ensures value { slice_get self.now place ≡ Some result.now }
+        requires { place < length self.now.rules }
+        ensures value { slice_get self.now.rules place ≡ Some result.now }
         ensures holds { Holds result.now }
     {
         &self.rules.as_slice()[place as usize]
     }
+}
+
+/// 1 for each opcode, and 0 for a move.
+#[tactic(auto, using(crate::proofs::WeightLemmas::weight_at_start))]
+fn initial_weights() -> [u8; OPCODES]
+    ensures weights { (op : Opcode) → weight_at result op ≡ initial_weight op }
+    ensures weighed { IsWeighed result }
+{
+    let mut weights = [1; OPCODES];
+    weights[place_of(Op::Mov)] = 0;
+    weights
+}
+
+/// Where the opcode stands in the table of opcodes.
+fn place_of(op: Op) -> usize
+    ensures place { result ≡ place_of op }
+    ensures within { result < 88 }
+{
+    op as usize
 }

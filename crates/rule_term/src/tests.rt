@@ -1,10 +1,10 @@
-//! Two rules that were worked out by hand, in a table, and evaluated; and the conditions on words.
+//! Rules that were worked out by hand, in tables, and evaluated; and the conditions on words.
 
 ghost use Rattle.std.specs.Prelude.{◌≡◌, ◌<◌, [], ◌∷◌, replicate, false, None, Some, IfOk};
 ghost use Rattle.nir_ops.specs.declared.width.Width.TheVariants.{W8};
 ghost use Rattle.rule_term.specs.Lists.{then};
 ghost use Rattle.rule_term.specs.Terms.{Nil, VarThen, LitThen, AppThen, terms_of};
-ghost use Rattle.rule_term.specs.Worked.{lowered, same};
+ghost use Rattle.rule_term.specs.Worked.{lowered, same, neutral};
 
 use crate::{Cond, Rule, Side, Table, Term, Typing, When, cond_holds, eval_term};
 use nir_host::{OutOfMemory, Seq};
@@ -15,7 +15,7 @@ use std::test::Fail;
 
 /// A variable that asks for nothing but perhaps its size.
 #[tactic(auto, using(crate::proofs::BuildLemmas::build_steps))]
-fn var(var: u32, size: Option<Width>) -> Term
+pub(crate) fn var(var: u32, size: Option<Width>) -> Term
     ensures { terms_of (result ∷ []) ≡ VarThen var false size None Nil }
 {
     Term::Var {
@@ -27,7 +27,7 @@ fn var(var: u32, size: Option<Width>) -> Term
 }
 
 #[tactic(auto, using(crate::proofs::BuildLemmas::build_steps))]
-fn lit(value: i128) -> Term
+pub(crate) fn lit(value: i128) -> Term
     ensures { terms_of (result ∷ []) ≡ LitThen value false Nil }
 {
     Term::Lit {
@@ -38,7 +38,7 @@ fn lit(value: i128) -> Term
 
 /// An opcode over one term.
 #[tactic(auto, using(crate::proofs::BuildLemmas::build_steps))]
-fn over(alloc: Global, op: Op, source: Term) -> Result<Term, OutOfMemory>
+pub(crate) fn over(alloc: Global, op: Op, source: Term) -> Result<Term, OutOfMemory>
     ensures { IfOk result (λ t. terms_of (t ∷ []) ≡ AppThen op None false (terms_of (source ∷ [])) Nil) }
 {
     let mut args = Seq::new(alloc);
@@ -52,7 +52,12 @@ fn over(alloc: Global, op: Op, source: Term) -> Result<Term, OutOfMemory>
 }
 
 /// An opcode over two terms.
-fn over_two(alloc: Global, op: Op, first: Term, second: Term) -> Result<Term, OutOfMemory>
+pub(crate) fn over_two(
+    alloc: Global,
+    op: Op,
+    first: Term,
+    second: Term,
+) -> Result<Term, OutOfMemory>
     ensures { IfOk result (λ t. terms_of (t ∷ []) ≡ AppThen op None false (then (terms_of (first ∷ [])) (terms_of (second ∷ []))) Nil) }
 {
     let mut args = Seq::new(alloc);
@@ -146,6 +151,41 @@ fn a_table_keeps_its_rules(rt: HostRuntime) -> Result<(), Fail> {
     table.add(rule)?;
     assert_eq!(rt; table.len(), 1);
     assert_eq!(rt; table.rule(0).number, 3);
+    Ok(())
+}
+
+/// From `(iadd a@8 0)` to `a`, as rule 4.
+#[tactic(auto, using(crate::specs::Worked::neutral_formed), unfolding(crate::specs::Worked::neutral))]
+fn neutral(alloc: Global) -> Result<Rule, OutOfMemory>
+    ensures { IfOk result (λ rule. rule ≡ neutral) }
+{
+    let search = over_two(alloc, Op::Iadd, var(0, Some(Width::W8)), lit(0))?;
+    Ok(Rule {
+        number: 4,
+        search,
+        replace: var(0, None),
+        when: When::Always,
+        vars: 1,
+    })
+}
+
+#[test]
+#[tactic(auto, using(crate::specs::Worked::neutral_holds), unfolding(crate::specs::Worked::neutral))]
+fn a_table_keeps_its_weights(rt: HostRuntime) -> Result<(), Fail> {
+    let mut table = Table::new(rt.alloc());
+    let rule = neutral(rt.alloc())?;
+    table.add(rule)?;
+    for &(weight, descending) in &[(1, true), (0, false), (60, true)] {
+        table.set_weight(Op::Iadd, weight);
+        assert_eq!(rt; table.weight(Op::Iadd), weight);
+        assert_eq!(rt;
+            table.descending(),
+            descending,
+            "where iadd weighs {weight}"
+        );
+    }
+    assert_eq!(rt; table.weight(Op::Isub), 1);
+    assert_eq!(rt; table.weight(Op::Mov), 0);
     Ok(())
 }
 
