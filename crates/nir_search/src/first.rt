@@ -47,9 +47,9 @@ pub fn match_rule<L: Ledger>(
     value: ValueId,
     steps: &mut Steps<L>,
 ) -> Option<Subst>
-    requires place { rv.rule < length table.now }
-    requires eight { list_all is_eight_bit table.now ≡ true }
-    ensures value { (rule : Whole) → slice_get table.now rv.rule ≡ Some rule → result ≡ match_of rule rv.variant shader.now.body value }
+    requires place { rv.rule < length table.now.rules }
+    requires eight { list_all is_eight_bit table.now.rules ≡ true }
+    ensures value { (rule : Whole) → slice_get table.now.rules rv.rule ≡ Some rule → result ≡ match_of rule rv.variant shader.now.body value }
     ensures counted { steps.new ≡ steps.old + 1 }
 {
     steps.tick();
@@ -103,9 +103,9 @@ fn hit_of<L: Ledger>(
     value: ValueId,
     steps: &mut Steps<L>,
 ) -> Option<Hit>
-    requires place { place < length table.now }
-    requires eight { list_all is_eight_bit table.now ≡ true }
-    ensures { (rule : Whole) → slice_get table.now place ≡ Some rule → result ≡ hit_of options.now rule place shader.now.body value }
+    requires place { place < length table.now.rules }
+    requires eight { list_all is_eight_bit table.now.rules ≡ true }
+    ensures { (rule : Whole) → slice_get table.now.rules place ≡ Some rule → result ≡ hit_of options.now rule place shader.now.body value }
 {
     let rule = table.rule(place);
     if !rule.when.holds(options) {
@@ -140,8 +140,8 @@ pub fn first_match<L: Ledger>(
     value: ValueId,
     steps: &mut Steps<L>,
 ) -> Option<Hit>
-    requires eight { list_all is_eight_bit table.now ≡ true }
-    ensures { result ≡ first_hit options.now table.now shader.now.body value }
+    requires eight { list_all is_eight_bit table.now.rules ≡ true }
+    ensures { result ≡ first_hit options.now table.now.rules shader.now.body value }
 {
     for place in 0..table.len() {
         match hit_of(table, place as u32, options, shader, value, steps) {

@@ -108,9 +108,9 @@ pub fn rewrite_at(
     value: ValueId,
     hit: &Hit,
 ) -> Result<Shader, OutOfMemory>
-    requires built { list_all is_built table.now ≡ true }
-    requires hit { IsHit table.now shader.body value hit.now }
-    ensures put { IfOk result (λ after. put_hit table.now shader value hit.now ≡ Some after) }
+    requires built { list_all is_built table.now.rules ≡ true }
+    requires hit { IsHit table.now.rules shader.body value hit.now }
+    ensures put { IfOk result (λ after. put_hit table.now.rules shader value hit.now ≡ Some after) }
     ensures lighter { IfOk result (λ after. weight_of after + 1 ≡ weight_of shader) }
 {
     let count = count_at(&shader, value);

@@ -32,9 +32,9 @@ fn rewrite_found(
     found: &Found,
     journal: &mut Journal,
 ) -> Result<Shader, OutOfMemory>
-    requires built { list_all is_built table.now ≡ true }
-    requires first { first_hit options.now table.now shader.body found.now.value ≡ Some found.now.hit }
-    ensures { IfOk result (λ after. Rewrites options.now table.now shader after journal.old journal.new 1) }
+    requires built { list_all is_built table.now.rules ≡ true }
+    requires first { first_hit options.now table.now.rules shader.body found.now.value ≡ Some found.now.hit }
+    ensures { IfOk result (λ after. Rewrites options.now table.now.rules shader after journal.old journal.new 1) }
 {
     let _ = options;
     let step = Step::Rule {
@@ -58,10 +58,10 @@ pub fn rewrite_all<L: Ledger>(
     journal: &mut Journal,
     steps: &mut Steps<L>,
 ) -> Result<Rewritten, OutOfMemory>
-    requires built { list_all is_built table.now ≡ true }
-    ensures steps { IfOk result (λ r. Rewrites options.now table.now shader r.shader journal.old journal.new r.rewrites) }
+    requires built { list_all is_built table.now.rules ≡ true }
+    ensures steps { IfOk result (λ r. Rewrites options.now table.now.rules shader r.shader journal.old journal.new r.rewrites) }
     ensures few { IfOk result (λ r. r.rewrites ≤ limit) }
-    ensures settled { IfOk result (λ r. (is_settled options.now table.now r.shader ≡ true) ⊎ (r.rewrites ≡ limit)) }
+    ensures settled { IfOk result (λ r. (is_settled options.now table.now.rules r.shader ≡ true) ⊎ (r.rewrites ≡ limit)) }
 {
     let mut shader = shader;
     for rewrites in 0..limit {

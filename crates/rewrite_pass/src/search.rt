@@ -26,8 +26,8 @@ pub(crate) fn find_hit<L: Ledger>(
     options: &Options,
     steps: &mut Steps<L>,
 ) -> Option<Found>
-    requires eight { list_all is_eight_bit table.now ≡ true }
-    ensures { MatchOption result (is_settled options.now table.now shader.now ≡ true) (λ found. first_hit options.now table.now shader.now.body found.value ≡ Some found.hit) }
+    requires eight { list_all is_eight_bit table.now.rules ≡ true }
+    ensures { MatchOption result (is_settled options.now table.now.rules shader.now ≡ true) (λ found. first_hit options.now table.now.rules shader.now.body found.value ≡ Some found.hit) }
 {
     // The proof learns that all values are below the bound.
     let _ = &shader.body;

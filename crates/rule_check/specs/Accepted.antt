@@ -2,6 +2,7 @@
 use Rattle.std.specs.Prelude.{◌≡◌, Bool, true, false, ◌&&◌, Option, Some, None, List, [], ◌∷◌, map, is_none, Result, Ok, Err}
 use Rattle.std.specs.Option.{option_map, option_or}
 use Rattle.rule_term.specs.Rule.{Rule}
+use Rattle.rule_term.specs.Table.{Table}
 use Rattle.rule_term.specs.EightBit.{is_eight_bit, all_eight}
 use Rattle.rule_read.specs.declared.entry.Entry.{Entry}
 use Rattle.rule_read.specs.declared.entry.Line.{Line}
@@ -59,7 +60,7 @@ abbrev pub rules_of : List Entry → List Rule
 rules_of entries = map (λ entry. entry.rule) entries
 
 -- The answer for these entries: the table of all their rules where no rule is refused, else the refusal. Memory may be wanting at any time.
-abbrev pub IsVerdict : List Entry → Result (List Rule) CheckFault → Type 0
-IsVerdict entries (Ok table) = (refusal_of entries ≡ None) × (table ≡ rules_of entries)
+abbrev pub IsVerdict : List Entry → Result Table CheckFault → Type 0
+IsVerdict entries (Ok table) = (refusal_of entries ≡ None) × (table.rules ≡ rules_of entries)
 IsVerdict entries (Err (fault.Refused refused)) = refusal_of entries ≡ Some refused
 IsVerdict entries (Err fault.OutOfMemory) = Unit {0}

@@ -6,6 +6,7 @@ use Rattle.std.specs.Ordering.{nat_cmp}
 use Rattle.std.specs.declared.cmp.Ordering.TheVariants.{Less}
 use Rattle.nir_ops.specs.declared.width.Width.{Width}
 use Rattle.rule_term.specs.Rule.{Rule}
+use Rattle.rule_term.specs.Table.{Table}
 use Rattle.rule_term.specs.Formed.{IsFormed}
 use Rattle.rule_term.specs.EightBit.{all_eight}
 use Rattle.rule_term.specs.Typings.{search_part, replace_part}
@@ -54,7 +55,7 @@ pub record IsFirstRefused (entries : List Entry) (refused : Refused) : Type 0 wh
   pub cause : IsCause entry.rule refused.cause
 
 -- what the answer for these entries tells of their rules
-abbrev pub IsJust : List Entry → Result (List Rule) CheckFault → Type 0
+abbrev pub IsJust : List Entry → Result Table CheckFault → Type 0
 IsJust entries (Ok table) = AllByRecursion IsEqualAtEight entries
 IsJust entries (Err (fault.Refused refused)) = IsFirstRefused entries refused
 IsJust entries (Err fault.OutOfMemory) = Unit {0}

@@ -3,7 +3,10 @@
 ghost use Rattle.std.specs.Prelude.{◌≡◌, ◌&&◌, true, None, IfOk};
 ghost use Rattle.std.specs.List.{list_all};
 ghost use Rattle.rule_term.specs.EightBit.{is_eight_bit};
+ghost use Rattle.nir_ops.specs.declared.op.Op.{Op as Opcode};
 ghost use Rattle.rule_term.specs.Holds.{Holds};
+ghost use Rattle.rule_term.specs.Table.{op_weight};
+ghost use Rattle.rule_term.specs.Weights.{initial_weight};
 ghost use Rattle.rule_check.specs.Accepted.{stands_at_eight, is_tried, is_cases, are_cases, cause_of, IsVerdict};
 ghost use Rattle.rule_check.specs.Verdicts.{IsJust, AcceptedAreEqual, RefusedIsFirst};
 
@@ -14,7 +17,8 @@ use rule_read::{Entry, Line, Proof, RuleFile};
 use rule_term::{Rule, Table, Typing};
 use std::alloc::Global;
 
-/// The table of the rules of the file, in order, where each is accepted: no trial of its cases finds a difference.
+/// The table of the rules of the file, in order, where each is accepted: no trial of its cases finds a difference. Each
+/// opcode has its initial weight.
 /// # Errors
 /// `Refused` tells the first rule that is not accepted. `OutOfMemory` may come at any time.
 pub fn check_file(alloc: Global, file: RuleFile) -> Result<Table, CheckFault>
@@ -22,6 +26,7 @@ pub fn check_file(alloc: Global, file: RuleFile) -> Result<Table, CheckFault>
     requires cases { list_all is_tried file.entries ≡ true }
     ensures verdict { IsVerdict file.entries result }
     ensures just { IsJust file.entries result }
+    ensures weights { IfOk result (λ table. (op : Opcode) → op_weight table op ≡ initial_weight op) }
 {
     let mut table = Table::new(alloc);
     for entry in file.entries.into_vec() {

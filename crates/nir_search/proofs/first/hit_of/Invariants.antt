@@ -8,6 +8,6 @@ use Rattle.nir_search.proofs.first.hit_of.Given as goal
 
 abbrev pub invariant-loop-variant : goal.invariant-loop-variant
 invariant-loop-variant g l =
-    (rule : Rule) → slice_get l.table l.place ≡ Some rule
+    (rule : Rule) → slice_get l.table.rules l.place ≡ Some rule
     → first_variant rule l.place l.shader.body l.value (range_with_len l.variant (variant_count rule - l.variant))
     ≡ first_variant rule l.place l.shader.body l.value (range_with_len 0 (variant_count rule))

@@ -27,14 +27,14 @@ leaf_same list binds value n count inside leaf instr one is same_list same_count
 pub leaf_instr-requires : goal.leaf_instr-requires
 leaf_instr-requires c =
     let says =
-    hit_says c.args.table.now c.args.shader c.args.value c.args.hit.now c.rule-rule.result.now
+    hit_says c.args.table.now.rules c.args.shader c.args.value c.args.hit.now c.rule-rule.result.now
     (subst IsShaped c.shader.view_is c.shader.invariant) (subst IsFormed c.rule.view_is c.rule.invariant) c.requires.built c.rule-rule.ensures.value c.requires.hit in
     record { leaf = ap (λ r. is_leaf r.replace) c.rule.view_is ∙ says.leaf }
 
 pub set_instr-requires : goal.set_instr-requires
 set_instr-requires c =
     let says =
-    hit_says c.args.table.now c.args.shader c.args.value c.args.hit.now c.rule-rule.result.now
+    hit_says c.args.table.now.rules c.args.shader c.args.value c.args.hit.now c.rule-rule.result.now
     (subst IsShaped c.shader.view_is c.shader.invariant) (subst IsFormed c.rule.view_is c.rule.invariant) c.requires.built c.rule-rule.ensures.value c.requires.hit in
     let same : c.in_ok-instr.instr ≡ put_instr c.rule-rule.result.now c.args.shader c.args.value c.args.hit.now.subst =
     leaf_same _ _ _ _ _ _ _ _ says.leaf c.in_ok-instr.ensures c.as_slice.ensures c.count_at-count.ensures.count (ap (λ r. r.replace) c.rule.view_is) in
@@ -43,7 +43,7 @@ set_instr-requires c =
 pub returns-clause-put : goal.returns-clause-put
 returns-clause-put c =
     let says =
-    hit_says c.args.table.now c.args.shader c.args.value c.args.hit.now c.rule-rule.result.now
+    hit_says c.args.table.now.rules c.args.shader c.args.value c.args.hit.now c.rule-rule.result.now
     (subst IsShaped c.shader.view_is c.shader.invariant) (subst IsFormed c.rule.view_is c.rule.invariant) c.requires.built c.rule-rule.ensures.value c.requires.hit in
     let same : c.in_ok-instr.instr ≡ put_instr c.rule-rule.result.now c.args.shader c.args.value c.args.hit.now.subst =
     leaf_same _ _ _ _ _ _ _ _ says.leaf c.in_ok-instr.ensures c.as_slice.ensures c.count_at-count.ensures.count (ap (λ r. r.replace) c.rule.view_is) in
@@ -52,7 +52,7 @@ returns-clause-put c =
 pub returns-clause-lighter : goal.returns-clause-lighter
 returns-clause-lighter c =
     let says =
-    hit_says c.args.table.now c.args.shader c.args.value c.args.hit.now c.rule-rule.result.now
+    hit_says c.args.table.now.rules c.args.shader c.args.value c.args.hit.now c.rule-rule.result.now
     (subst IsShaped c.shader.view_is c.shader.invariant) (subst IsFormed c.rule.view_is c.rule.invariant) c.requires.built c.rule-rule.ensures.value c.requires.hit in
     let same : c.in_ok-instr.instr ≡ put_instr c.rule-rule.result.now c.args.shader c.args.value c.args.hit.now.subst =
     leaf_same _ _ _ _ _ _ _ _ says.leaf c.in_ok-instr.ensures c.as_slice.ensures c.count_at-count.ensures.count (ap (λ r. r.replace) c.rule.view_is) in

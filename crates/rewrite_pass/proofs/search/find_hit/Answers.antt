@@ -6,5 +6,5 @@ use Rattle.rewrite_pass.proofs.search.find_hit.Goals as goal
 pub returns : goal.returns
 returns g c =
     let bound : c.shader.inside.next_value ≡ c.args.shader.now.next_value = ap (λ s. s.next_value) c.shader.view_is in
-    settled_below c.args.options.now c.args.table.now c.args.shader.now (subst IsShaped c.shader.view_is c.shader.invariant)
+    settled_below c.args.options.now c.args.table.now.rules c.args.shader.now (subst IsShaped c.shader.view_is c.shader.invariant)
     (λ n less. c.loop-number.invariant n (omega (arith, less, bound, c.loop-number-test.false)))

@@ -4,4 +4,4 @@ use Rattle.nir_search.specs.First.{first_hit}
 use Rattle.rewrite_pass.proofs.search.find_hit.Given as goal
 
 abbrev pub invariant-loop-number : goal.invariant-loop-number
-invariant-loop-number g l = (n : ℕ) → n < l.number → first_hit l.options l.table l.shader.body (record { 0 = n }) ≡ None
+invariant-loop-number g l = (n : ℕ) → n < l.number → first_hit l.options l.table.rules l.shader.body (record { 0 = n }) ≡ None
