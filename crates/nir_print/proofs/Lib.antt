@@ -5,3 +5,10 @@ pub mod OrderedLemmas
 pub mod Lines
 pub mod BlockOrder
 pub mod SampleShaped
+pub mod EachOf
+pub mod Lexing
+pub mod Parts
+pub mod Spelled
+pub mod Renumbered
+pub mod RoundTrip
+pub mod WordLemmas

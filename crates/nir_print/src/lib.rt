@@ -2,6 +2,11 @@
 #![tactic(auto)]
 
 ghost use Rattle.std.specs.Prelude.{◌≡◌, ◌++◌, [], OnOk, IfOk, codes, decimal};
+ghost use Rattle.nir_print.specs.RoundTrip.{HasMachineNumbers, IsTextOf, printed_names, ReadingGivesRenumbered, TextDenotes};
+ghost use Rattle.nir_spelling.specs.Resolving.{IsWithinLimits};
+ghost use Rattle.nir_text.specs.Tree.{Reads};
+ghost use Rattle.nir_print.specs.Naming.{naming_of};
+ghost use Rattle.nir_print.specs.Renumber.{renumber};
 ghost use Rattle.nir_print.specs.Text.{text_of, line, kinds_text};
 
 mod collect;
@@ -16,26 +21,62 @@ mod word;
 use naming::Naming;
 use nir_host::{Bytes, OutOfMemory, Seq};
 use nir_ir::{Kinds, Shader};
+use nir_lex::{blanks_are_passed, spelled_is_read};
 use std::alloc::Global;
 use tree::{push_line, push_nodes};
 use word::{push, push_kinds, push_number};
 
 /// The canonical text of a shader: values and blocks are named by their places in text order, the sources
-/// of a phi stand in block order, and each part has a line of its own. The only other answer is
-/// `OutOfMemory`.
+/// of a phi stand in block order, and each part has a line of its own. It is in the grammar of shader
+/// texts, however large it is, and denotes the shader in text order; within the limits of texts it is read
+/// as that. The only other answer is `OutOfMemory`.
 pub fn print_shader(alloc: Global, shader: &Shader) -> Result<Bytes, OutOfMemory>
+    ensures text { IfOk result (λ text. text ≡ text_of shader.now) }
+    ensures numbers { IfOk result (λ _. HasMachineNumbers shader.now) }
+    ensures denotes { IfOk result (λ text. IsTextOf text (printed_names shader.now.body) (renumber shader.now)) }
+    ensures reads { IfOk result (λ text. IsWithinLimits (renumber shader.now) → Reads text (renumber shader.now)) }
+{
+    text_denotes();
+    reading_gives_renumbered();
+    // The proof learns that the shader is shaped.
+    let _ = &shader.body;
+    let naming = Naming::new(alloc, shader)?;
+    let text = named_text(alloc, shader, &naming)?;
+    Ok(text)
+}
+
+/// The canonical text under these names.
+fn named_text(alloc: Global, shader: &Shader, naming: &Naming) -> Result<Bytes, OutOfMemory>
+    requires { naming.now ≡ naming_of shader.now.body }
     ensures { IfOk result (λ text. text ≡ text_of shader.now) }
 {
-    let naming = Naming::new(alloc, shader)?;
     let mut out = Vec::new(alloc);
     push_line(&mut out, b"", b"shader")?;
     push_slots(&mut out, b"inputs", &shader.inputs)?;
     push_slots(&mut out, b"outputs", &shader.outputs)?;
     push_buffers(&mut out, shader.buffers)?;
     push_line(&mut out, b"", b"{")?;
-    push_nodes(alloc, &mut out, &naming, b"  ", shader.body.as_slice())?;
+    push_nodes(alloc, &mut out, naming, b"  ", shader.body.as_slice())?;
     push_line(&mut out, b"", b"}")?;
     Ok(Seq::from_vec(out))
+}
+
+/// The canonical text is in the grammar of shader texts, and spells the shader in text order.
+#[tactic(auto, using(crate::proofs::RoundTrip::text_denotes))]
+pub fn text_denotes()
+    ensures { TextDenotes }
+{
+    spelled_is_read();
+    blanks_are_passed();
+}
+
+/// Reading the canonical text gives the shader in text order, where that is within the limits of texts.
+#[tactic(auto, using(crate::proofs::RoundTrip::reading_gives_renumbered))]
+pub fn reading_gives_renumbered()
+    ensures { ReadingGivesRenumbered }
+{
+    text_denotes();
+    nir_spelling::spelled_is_read();
 }
 
 /// Adds the line of the declared inputs or outputs.

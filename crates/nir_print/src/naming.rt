@@ -1,10 +1,11 @@
 //! How a text names values and blocks.
 
-ghost use Rattle.std.specs.Prelude.{◌≡◌, IfOk, nat_eq};
+ghost use Rattle.std.specs.Prelude.{◌≡◌, ◌^◌, ◌<◌, IfOk, nat_eq, length};
 ghost use Rattle.std.specs.List.{IsDistinct};
+ghost use Rattle.nir_print.specs.RoundTrip.{HasMachineNumbers};
 ghost use Rattle.nir_print.specs.Naming.{place, naming_of, value_place, block_place, kind_of};
 
-use crate::collect::{Found, collect_list};
+use crate::collect::{Found, collect_list, read_word};
 use indexmap::IndexSet;
 use nir_host::OutOfMemory;
 use nir_ir::{BlockId, Kind, Kinds, Shader, ValueId};
@@ -28,7 +29,8 @@ impl Model for Places {
 impl Places {
     fn new(alloc: Global, numbers: &[u32]) -> Result<Places, OutOfMemory>
         requires { IsDistinct nat_eq numbers.now }
-        ensures { IfOk result (λ places. places ≡ numbers.now) }
+        ensures places { IfOk result (λ places. places ≡ numbers.now) }
+        ensures counted { IfOk result (λ places. length places < 2 ^ 64) }
     {
         let mut places = IndexSet::new(alloc);
         for number in numbers {
@@ -68,8 +70,10 @@ impl Model for Naming {
 
 impl Naming {
     pub(crate) fn new(alloc: Global, shader: &Shader) -> Result<Naming, OutOfMemory>
-        ensures { IfOk result (λ naming. naming ≡ naming_of shader.now.body) }
+        ensures named { IfOk result (λ naming. naming ≡ naming_of shader.now.body) }
+        ensures numbers { IfOk result (λ _. HasMachineNumbers shader.now) }
     {
+        read_word(shader.buffers);
         let mut found = Found::new(alloc);
         collect_list(&mut found, shader.body.as_slice())?;
         let Found {
