@@ -1,0 +1,14 @@
+pub mod KindLemmas
+pub mod KindsFound
+pub mod PassLemmas
+pub mod PlaceLemmas
+pub mod OrderFound
+pub mod RoundFound
+pub mod PathLemmas
+pub mod WalkLemmas
+pub mod VisitLemmas
+pub mod PhiLemmas
+pub mod RoundLemmas
+pub mod BlockLemmas
+pub mod ListLemmas
+pub mod PartLemmas

@@ -1,0 +1,34 @@
+//! Laws over the definitions of valid shaders. Each function does nothing: its contract is the law.
+
+ghost use Rattle.nir_validate.specs.Grow.{SetsOnlyGrow};
+ghost use Rattle.nir_validate.specs.OneBlock.{OneBlockIsValid};
+ghost use Rattle.nir_validate.specs.TypedLaws.{ValidIsTyped, ValidWhereNone};
+ghost use Rattle.nir_validate.specs.Walked.{ValidIsWalked};
+
+/// A shader is valid exactly where no rule is broken.
+pub fn valid_where_no_rule_is_broken()
+    ensures { ValidWhereNone }
+{}
+
+/// The instructions, phis and conditions of a valid shader fit the kinds of the values that they use, and the
+/// slots and buffers that are declared.
+pub fn valid_shaders_are_typed()
+    ensures { ValidIsTyped }
+{}
+
+/// In a valid shader each if, each loop and each block that does anything is reached, the sources of a phi name its
+/// predecessors once each, and what is used is defined on every path to its use.
+pub fn valid_shaders_define_what_they_use()
+    ensures { ValidIsWalked }
+{}
+
+/// A value that is defined on every path into a list of nodes is defined on every path out of it.
+pub fn sets_only_grow()
+    ensures { SetsOnlyGrow }
+{}
+
+/// A shader of one block is valid exactly where the block has no phi and no jump, and each of its instructions
+/// fits and uses what earlier ones define.
+pub fn one_block_is_valid_by_its_instructions()
+    ensures { OneBlockIsValid }
+{}
