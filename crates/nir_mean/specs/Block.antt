@@ -21,14 +21,17 @@ use Rattle.nir_ir.specs.Nodes.{Nodes}
 use Rattle.nir_ir.specs.Shader.{Shader}
 use Rattle.nir_ir.specs.Shaped.{IsShaped, IsShapedInstr}
 use Rattle.nir_mean.specs.Bytes.{BuffersHold, load_kind, store_holds}
-use Rattle.nir_mean.specs.Known.{Equation, HasKind, IsKnown, Set}
+use Rattle.nir_mean.specs.Known.{Equation, HasKind, IsKnown}
+use Rattle.nir_validate.specs.Edges.{Set}
 use Rattle.nir_mean.specs.Outcome.{setting}
 use Rattle.nir_mean.specs.Points.{AreDefined, Closed, Defines, IsLeft, IsNew, closed-next, closed-start, defined-next, defining_target, defined-start, kind_at-defines, left-new, left-next, or_other, same_id}
 use Rattle.nir_mean.specs.Reads.{SourceOf, Equation-same, Equation-value, kind_of_target-found, with_value-here, with_value-other}
 use Rattle.nir_mean.specs.Run.{Setting, kind_of, run_instr, run_instrs, scalar, value_of, world_of}
 use Rattle.nir_mean.specs.Same.{InputsFit}
 use Rattle.nir_mean.specs.State.{State, with_target, with_value, zeros}
-use Rattle.nir_mean.specs.Valid.{InstrFits, InstrsValid, ReadsIn, no_values, set_after, with_member}
+use Rattle.nir_validate.specs.Typed.{InstrFits}
+use Rattle.nir_validate.specs.OneBlock.{InstrsValid, ReadsIn}
+use Rattle.nir_validate.specs.Edges.{no_values, set_after, with_member}
 use Rattle.nir_mean.specs.Values.{Values, alu_mean, read, source_sizes}
 use Rattle.nir_mean.specs.ViewLaws.{AreWords, SourcesFit, are_words-cons, are_words-map, are_words-none, view_kind}
 
@@ -50,7 +53,7 @@ zero_words bits (suc n) = are_words-cons bits 0 (replicate n 0) (pow_pos bits) (
 pub zeros_kind : (kind : Kind) → HasKind kind (zeros kind)
 zeros_kind kind = record { count = length-replicate kind.count 0; words = zero_words (width_bits kind.width) kind.count }
 
-input_kind : (kinds : List Kind) (inputs : List (List ℕ)) (slot : ℕ) (kind : Kind) → InputsFit kinds inputs → slice_get kinds slot ≡ Some kind → HasKind kind (slice_index_or inputs slot [])
+pub input_kind : (kinds : List Kind) (inputs : List (List ℕ)) (slot : ℕ) (kind : Kind) → InputsFit kinds inputs → slice_get kinds slot ≡ Some kind → HasKind kind (slice_index_or inputs slot [])
 input_kind [] [] slot kind fit is = absurd (none-some kind is)
 input_kind [] (comps ∷ inputs) slot kind fit is = absurd fit
 input_kind (first ∷ kinds) [] slot kind fit is = absurd fit

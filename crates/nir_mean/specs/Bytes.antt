@@ -11,7 +11,8 @@ use Rattle.nir_ops.specs.declared.width.Width.TheVariants.{W1, W8, W16, W32, W64
 use Rattle.nir_ops.specs.Width.{width_bits}
 use Rattle.nir_ir.specs.declared.kind.Kind.{Kind}
 use Rattle.nir_mean.specs.Known.{HasKind}
-use Rattle.nir_mean.specs.State.{Stored, World, bytes_of, is_inside, load, loaded, number_of, store, store_all, stored, width_bytes}
+use Rattle.nir_mean.specs.declared.outcome.Stored.{Stored}
+use Rattle.nir_mean.specs.State.{World, bytes_of, is_inside, load, loaded, number_of, store, store_all, stored, width_bytes}
 use Rattle.nir_mean.specs.ViewLaws.{are_words-map}
 
 abbrev pub AreBytes : List ℕ → Type 0

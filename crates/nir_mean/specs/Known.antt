@@ -1,5 +1,5 @@
 -- What is known of the values of a set: each has the components that the instruction which writes it makes of its sources, as many and as wide as its kind says, and its sources are in the set.
-use Rattle.std.specs.Prelude.{◌≡◌, ◌<◌, ◌^◌, ℕ, Bool, true, List, Some, length, slice_get, slice_index}
+use Rattle.std.specs.Prelude.{◌≡◌, ◌<◌, ◌^◌, ℕ, true, List, Some, length, slice_index}
 use Rattle.nir_ops.specs.declared.op.Op.{Op}
 use Rattle.nir_ops.specs.Width.{width_bits}
 use Rattle.nir_ir.specs.declared.ids.ValueId.{ValueId}
@@ -8,13 +8,10 @@ use Rattle.nir_ir.specs.declared.instr.Instr.{Instr}
 use Rattle.nir_ir.specs.declared.instr.Instr.TheVariants.{Alu, Const, Undef, Input, Output, LoadBuf, StoreBuf}
 use Rattle.nir_ir.specs.declared.instr.Src.{Src}
 use Rattle.nir_ir.specs.Definitions.{instr_defining, kind_at}
-use Rattle.nir_ir.specs.Items.{reads}
 use Rattle.nir_ir.specs.Nodes.{Nodes}
+use Rattle.nir_validate.specs.Edges.{Set}
+use Rattle.nir_validate.specs.OneBlock.{IsRead}
 use Rattle.nir_mean.specs.Values.{Values, alu_mean}
-
--- a set of values
-abbrev pub Set : Type 0
-Set = ℕ → Bool
 
 -- the value of what an opcode or a const writes
 abbrev pub Equation : Nodes → Values → Instr → List ℕ → Type 0
@@ -30,10 +27,6 @@ Equation body values (StoreBuf effect buffer offset src) comps = Unit {0}
 pub record HasKind (kind : Kind) (comps : List ℕ) : Type 0 where
   pub count : length comps ≡ kind.count
   pub words : (at : ℕ) → slice_index comps at < 2 ^ width_bits kind.width
-
--- a source of an instruction is in the set
-abbrev pub IsRead : Instr → ValueId → Type 0
-IsRead instr id = (at : ℕ) × (slice_get (reads instr) at ≡ Some id)
 
 pub record IsKnown (body : Nodes) (set : Set) (values : Values) : Type 0 where
   -- the equations

@@ -1,19 +1,12 @@
 -- The outcome of a shader for inputs, contents of buffers and a number of repeats: how it ends, the stores that it made, and its outputs.
 use Rattle.std.specs.Prelude.{ℕ, List, [], map, None}
 use Rattle.nir_ir.specs.Shader.{Shader}
+use Rattle.nir_mean.specs.declared.outcome.Ending.{Ending}
+use Rattle.nir_mean.specs.declared.outcome.Ending.TheVariants.{Done, Cut}
+use Rattle.nir_mean.specs.declared.outcome.Outcome.{Outcome}
 use Rattle.nir_mean.specs.Run as run
 use Rattle.nir_mean.specs.Run.{Setting, run_list}
-use Rattle.nir_mean.specs.State.{State, Stored, World, unwritten, zeros}
-
--- a run is done, or it is cut where the repeats of a loop are used
-pub data Ending : Type 0 where
-  Done : Ending
-  Cut : Ending
-
-pub record Outcome : Type 0 where
-  pub ending : Ending
-  pub stores : List Stored
-  pub outputs : List (List ℕ)
+use Rattle.nir_mean.specs.State.{State, World, unwritten, zeros}
 
 -- no values, these buffers, outputs of 0, no stores
 abbrev pub start : Shader → List (List ℕ) → State

@@ -17,9 +17,11 @@ use Rattle.nir_ir.specs.Items.{target}
 use Rattle.nir_ir.specs.Nodes.{Nodes}
 use Rattle.nir_ir.specs.Shader.{Shader}
 use Rattle.nir_ir.specs.Shaped.{IsShaped}
-use Rattle.nir_mean.specs.Known.{IsRead, Set}
+use Rattle.nir_validate.specs.OneBlock.{IsRead}
+use Rattle.nir_validate.specs.Edges.{Set}
 use Rattle.nir_mean.specs.Reads.{kind_of_target-found}
-use Rattle.nir_mean.specs.Valid.{ReadsIn, no_values, set_after, with_member}
+use Rattle.nir_validate.specs.OneBlock.{ReadsIn}
+use Rattle.nir_validate.specs.Edges.{no_values, set_after, with_member}
 
 -- the sources of what an opcode writes are in the set
 abbrev pub Closed : Nodes → Set → Type 0

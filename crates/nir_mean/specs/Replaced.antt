@@ -20,14 +20,20 @@ use Rattle.nir_ir.specs.Shader.{Shader}
 use Rattle.nir_ir.specs.Shaped.{IsShaped}
 use Rattle.nir_ir.specs.Splits.{instrs-BlockThen}
 use Rattle.nir_mean.specs.Block.{KnownAt, known-next, known-start}
-use Rattle.nir_mean.specs.Known.{IsRead, Set}
-use Rattle.nir_mean.specs.Outcome.{Done, outcome, outcome_of, setting, start, told}
+use Rattle.nir_validate.specs.OneBlock.{IsRead}
+use Rattle.nir_validate.specs.Edges.{Set}
+use Rattle.nir_mean.specs.declared.outcome.Ending.TheVariants.{Done}
+use Rattle.nir_mean.specs.Outcome.{outcome, outcome_of, setting, start, told}
 use Rattle.nir_mean.specs.Points.{AreDefined, Closed, IsLeft, closed-next, closed-start, defined-next, defined-start, defining_target, left-new, left-next, left-start, same_id}
 use Rattle.nir_mean.specs.Reads.{SameKinds, run_instrs-append, value_of-same, world_of-same, world_of-target}
 use Rattle.nir_mean.specs.Run.{Setting, after_fall, jump_exit, run_instr, run_instrs, run_list, run_phis, value_of}
 use Rattle.nir_mean.specs.Same.{BuffersFit, InputsFit, Same}
 use Rattle.nir_mean.specs.State.{State, with_target, zeros}
-use Rattle.nir_mean.specs.Valid.{BodyValid, FitsIn, InstrFits, InstrsValid, Kinds, ReadsIn, Valid, no_values, set_after, with_member}
+use Rattle.nir_mean.specs.OneBlock.{BodyValid, ValidBlock}
+use Rattle.nir_validate.specs.Typed.{FitsIn, InstrFits}
+use Rattle.nir_validate.specs.OneBlock.{InstrsValid, ReadsIn}
+use Rattle.nir_validate.specs.Rules.{Kinds}
+use Rattle.nir_validate.specs.Edges.{no_values, set_after, with_member}
 use Rattle.nir_mean.specs.Values.{Values}
 
 -- states of one world, in which all values but the fresh ones agree
@@ -122,7 +128,7 @@ only_instrs b = instrs-BlockThen b Nil ∙ append-nil b.instrs
 -- two shaders of one block, of which the second has new instructions in the place of one
 pub same_block : (s t : Shader) (fresh : Set) (value : ValueId) (old : Instr) (news : List Instr)
     → s.inputs ≡ t.inputs → s.outputs ≡ t.outputs → s.buffers ≡ t.buffers → t.body ≡ replaced value news s.body
-    → IsShaped s → Valid s → instr_defining value s.body ≡ Some old → KindsStay fresh s.body t.body → AllByRecursion (ReadsNone fresh) (instrs s.body)
+    → IsShaped s → ValidBlock s → instr_defining value s.body ≡ Some old → KindsStay fresh s.body t.body → AllByRecursion (ReadsNone fresh) (instrs s.body)
     → ((inputs : List (List ℕ)) (repeats : ℕ) → InputsFit s.inputs inputs → Follows s t fresh old news inputs repeats)
     → Same s t
 unfolding outcome
@@ -203,7 +209,7 @@ all_read_none [] = tt
 all_read_none (instr ∷ list) = ((λ _ _. refl), all_read_none list)
 
 -- a shader of one block means the same where a new instruction that makes the same takes the place of an old one
-pub same_replaced : (s : Shader) (value : ValueId) (old new : Instr) → IsShaped s → Valid s → TakesPlace s value old new → SameValue s old new → Same s (with_instr value new s)
+pub same_replaced : (s : Shader) (value : ValueId) (old new : Instr) → IsShaped s → ValidBlock s → TakesPlace s value old new → SameValue s old new → Same s (with_instr value new s)
 same_replaced s value old new shaped valid place same =
     same_block s (with_instr value new s) no_values value old (new ∷ []) refl refl refl refl shaped valid place.defined kinds (all_read_none (instrs s.body)) follows
   where
@@ -263,7 +269,7 @@ instrs_valid-replaced s value old new place fits before (instr ∷ list) set val
         subst (InstrsValid (with_instr value new s) set) (sym (passed value (new ∷ []) instr list is)) (valid.0, fits_after instr valid.1, rest)
 
 -- a valid shader stays valid where a new instruction that fits and reads only what is defined before takes the place of an old one
-pub valid_replaced : (s : Shader) (value : ValueId) (old new : Instr) → IsShaped s → Valid s → TakesPlace s value old new → InstrFits s new → ReadsBefore s old new → Valid (with_instr value new s)
+pub valid_replaced : (s : Shader) (value : ValueId) (old new : Instr) → IsShaped s → ValidBlock s → TakesPlace s value old new → InstrFits s new → ReadsBefore s old new → ValidBlock (with_instr value new s)
 valid_replaced s value old new shaped valid place fits before = of_body s.body refl valid where
   of_body : (body : Nodes) → s.body ≡ body → BodyValid s body → BodyValid (with_instr value new s) (replaced value (new ∷ []) body)
   of_body Nil is ok = absurd ok

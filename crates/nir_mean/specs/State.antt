@@ -10,14 +10,8 @@ use Rattle.nir_ir.specs.declared.ids.ValueId.{ValueId}
 use Rattle.nir_ir.specs.declared.kind.Kind.{Kind}
 use Rattle.nir_ir.specs.Definitions.{kind_at}
 use Rattle.nir_ir.specs.Nodes.{Nodes}
+use Rattle.nir_mean.specs.declared.outcome.Stored.{Stored}
 use Rattle.nir_mean.specs.Values.{Values}
-
--- a store, as it was made
-pub record Stored : Type 0 where
-  pub buffer : ℕ
-  pub offset : ℕ
-  pub kind : Kind
-  pub comps : List ℕ
 
 -- the buffers as lists of bytes, one component list an output slot, and the stores in the order in which they were made
 pub record World : Type 0 where

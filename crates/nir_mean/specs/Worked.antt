@@ -2,7 +2,7 @@
 use Rattle.std.specs.Prelude.{◌≡◌, refl, ℕ, zero, suc, true, false, ◌||◌, nat_eq, slice_get, slice_index, List, [], ◌∷◌, Some, None}
 use Rattle.std.proofs.Common.{sym, ◌∙◌, ap, lit<}
 use Rattle.std.proofs.lemmas.Option.{none-some, same_Some}
-use Rattle.nir_ops.specs.declared.op.Op.TheVariants.{Iadd}
+use Rattle.nir_ops.specs.declared.op.Op.TheVariants.{Iadd, Ineg}
 use Rattle.nir_ops.specs.declared.width.Width.TheVariants.{W1, W8, W16, W32}
 use Rattle.nir_ops.specs.Opcodes.{op_allows, op_info, row_of}
 use Rattle.op_eval.specs.Calls.{result_width, source_widths, unsized_width}
@@ -15,12 +15,14 @@ use Rattle.nir_ir.specs.declared.instr.Instr.TheVariants.{Alu, Const, Input, Out
 use Rattle.nir_ir.specs.declared.instr.Src.{Src}
 use Rattle.nir_ir.specs.declared.kind.Kind.{Kind}
 use Rattle.nir_ir.specs.declared.node.Block as block
+use Rattle.nir_ir.specs.declared.node.Jump.TheVariants.{Break}
 use Rattle.nir_ir.specs.declared.node.Phi.{Phi}
 use Rattle.nir_ir.specs.Nodes.{Nil, BlockThen, IfThen, LoopThen}
 use Rattle.nir_ir.specs.Shader.{Shader}
-use Rattle.nir_mean.specs.Outcome.{Done, Cut, outcome}
+use Rattle.nir_mean.specs.declared.outcome.Ending.TheVariants.{Done, Cut}
+use Rattle.nir_mean.specs.Outcome.{outcome}
 use Rattle.nir_mean.specs.Replaced.{SameValue}
-use Rattle.nir_mean.specs.Valid.{Valid}
+use Rattle.nir_mean.specs.OneBlock.{ValidBlock}
 use Rattle.nir_mean.specs.Values.{alu_mean}
 
 abbrev value : ℕ → ValueId
@@ -35,7 +37,7 @@ w8x1 = record { width = W8; count = 1 }
 abbrev w16x2 : Kind
 w16x2 = record { width = W16; count = 2 }
 
-abbrev w32x1 : Kind
+abbrev pub w32x1 : Kind
 w32x1 = record { width = W32; count = 1 }
 
 abbrev first_of : ℕ → Src
@@ -80,7 +82,7 @@ sum_told : (id : ValueId) (at : ℕ) → slice_get (value 2 ∷ []) at ≡ Some 
 sum_told id zero is = ap (λ v. nat_eq v.0 2 || (nat_eq v.0 1 || (nat_eq v.0 0 || false))) (sym (same_Some (value 2) id is))
 sum_told id (suc at) is = absurd (none-some id is)
 
-pub sum_valid : Valid sum_of_inputs
+pub sum_valid : ValidBlock sum_of_inputs
 unfolding op_info row_of op_allows unsized_width source_widths result_width
 sum_valid = (
   record {
@@ -209,3 +211,93 @@ fold_worked inputs repeats set state given known reads =
     let second : state.values 1 ≡ 100 ∷ [] = known.values.equal (value 1) (Const (value 1) w8x1 (100 ∷ [])) (reads (value 1) (1, refl)) refl in
     sym (ap (λ comps. op_mean Iadd 8 8 (slice_index comps 0 ∷ slice_index (state.values 1) 0 ∷ []) ∷ []) first
     ∙ ap (λ comps. op_mean Iadd 8 8 (200 ∷ slice_index comps 0 ∷ []) ∷ []) second)
+
+-- loads and stores that are not wholly inside: components outside are 0, and are dropped
+abbrev w16x1 : Kind
+w16x1 = record { width = W16; count = 1 }
+
+abbrev w16x3 : Kind
+w16x3 = record { width = W16; count = 3 }
+
+abbrev straddling : Shader
+straddling = record {
+  inputs = [];
+  outputs = w32x1 ∷ w16x3 ∷ w16x1 ∷ [];
+  buffers = 1;
+  body = BlockThen (block_of 0 [] (
+      Const (value 0) w32x1 (4 ∷ [])
+      ∷ Const (value 1) w32x1 (2 ∷ [])
+      ∷ LoadBuf (value 2) w32x1 0 (value 0)
+      ∷ LoadBuf (value 3) w16x3 0 (value 1)
+      ∷ Const (value 4) w16x2 (257 ∷ 258 ∷ [])
+      ∷ StoreBuf (record { 0 = 0 }) 0 (value 0) (value 4)
+      ∷ LoadBuf (value 5) w16x1 0 (value 0)
+      ∷ Output (record { 0 = 1 }) 0 (value 2)
+      ∷ Output (record { 0 = 2 }) 1 (value 3)
+      ∷ Output (record { 0 = 3 }) 2 (value 5)
+      ∷ [])) Nil;
+  next_value = 6;
+}
+
+pub straddling_worked : outcome straddling [] ((1 ∷ 2 ∷ 3 ∷ 4 ∷ 5 ∷ 6 ∷ []) ∷ []) 0 ≡ record {
+  ending = Done;
+  stores = record { buffer = 0; offset = 4; kind = w16x2; comps = 257 ∷ 258 ∷ [] } ∷ [];
+  outputs = (0 ∷ []) ∷ (1027 ∷ 1541 ∷ 0 ∷ []) ∷ (257 ∷ []) ∷ [];
+}
+unfolding outcome
+straddling_worked = refl
+
+-- a loop that does nothing, for ever
+abbrev idle : Shader
+idle = record {
+  inputs = w32x1 ∷ [];
+  outputs = w32x1 ∷ [];
+  buffers = 0;
+  body = BlockThen (block_of 0 [] (Input (value 0) w32x1 0 ∷ Output (record { 0 = 0 }) 0 (value 0) ∷ []))
+      (LoopThen (record { 0 = 0 }) (BlockThen (block_of 1 [] []) Nil)
+      (BlockThen (block_of 2 [] []) Nil));
+  next_value = 1;
+}
+
+pub idle_worked : outcome idle ((5 ∷ []) ∷ []) [] 3 ≡ record { ending = Cut; stores = []; outputs = (5 ∷ []) ∷ [] }
+unfolding outcome
+idle_worked = refl
+
+-- a loop whose body breaks is run once, with no repeat
+abbrev pub once : Shader
+once = record {
+  inputs = w32x1 ∷ [];
+  outputs = w32x1 ∷ [];
+  buffers = 0;
+  body = BlockThen (block_of 0 [] (Input (value 0) w32x1 0 ∷ []))
+      (LoopThen (record { 0 = 0 }) (BlockThen (record { id = record { 0 = 1 }; phis = []; instrs = Alu (value 1) Ineg w32x1 (first_of 0 ∷ []) ∷ []; jump = Some Break }) Nil)
+      (BlockThen (block_of 2 [] (Output (record { 0 = 0 }) 0 (value 1) ∷ [])) Nil));
+  next_value = 2;
+}
+
+pub once_worked : outcome once ((5 ∷ []) ∷ []) [] 0 ≡ record { ending = Done; stores = []; outputs = (4294967291 ∷ []) ∷ [] }
+unfolding outcome alu_mean view_mean shape_of unsized_width op_info row_of op_mean meaning residue
+once_worked = refl
+
+-- two phis that change places at each turn
+abbrev swapping : Shader
+swapping = record {
+  inputs = [];
+  outputs = w8x1 ∷ w8x1 ∷ [];
+  buffers = 0;
+  body = BlockThen (block_of 0 [] (Const (value 0) w8x1 (1 ∷ []) ∷ Const (value 1) w8x1 (2 ∷ []) ∷ []))
+      (LoopThen (record { 0 = 0 }) (BlockThen (block_of 1 (phi_of 2 0 0 1 3 ∷ phi_of 3 0 1 1 2 ∷ []) (
+      Output (record { 0 = 0 }) 0 (value 2)
+      ∷ Output (record { 0 = 1 }) 1 (value 3)
+      ∷ [])) Nil)
+      (BlockThen (block_of 2 [] []) Nil));
+  next_value = 4;
+}
+
+pub swapped_worked : outcome swapping [] [] 3 ≡ record { ending = Cut; stores = []; outputs = (2 ∷ []) ∷ (1 ∷ []) ∷ [] }
+unfolding outcome
+swapped_worked = refl
+
+pub swapped_back_worked : outcome swapping [] [] 4 ≡ record { ending = Cut; stores = []; outputs = (1 ∷ []) ∷ (2 ∷ []) ∷ [] }
+unfolding outcome
+swapped_back_worked = refl

@@ -9,7 +9,7 @@ use Rattle.std.specs.List.{AllByRecursion}
 use Rattle.std.specs.Str.{bytes_eq}
 use Rattle.nir_ir.specs.declared.ids.ValueId.{ValueId}
 use Rattle.nir_ir.specs.Nodes.{Nodes}
-use Rattle.nir_mean.specs.Known.{Set}
+use Rattle.nir_validate.specs.Edges.{Set}
 use Rattle.rule_term.specs.Formed.{numbered}
 use Rattle.nir_search.specs.declared.hit.Bind.{Bind}
 use Rattle.nir_search.specs.Match.{all_bound, bind, bind_slot, same_view}

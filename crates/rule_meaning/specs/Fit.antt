@@ -10,7 +10,7 @@ use Rattle.nir_ir.specs.declared.instr.Instr.TheVariants.{Alu}
 use Rattle.nir_ir.specs.declared.instr.Src.{Src}
 use Rattle.nir_ir.specs.Definitions.{instr_defining, kind_at}
 use Rattle.nir_ir.specs.Nodes.{Nodes}
-use Rattle.nir_mean.specs.Known.{Set}
+use Rattle.nir_validate.specs.Edges.{Set}
 
 -- how many components a value has
 abbrev pub component_count : Nodes → ValueId → ℕ

@@ -26,7 +26,8 @@ use Rattle.rule_term.specs.Typings.{occurrences, same_width, search_part, size_o
 use Rattle.nir_search.specs.declared.hit.Bind.{Bind}
 use Rattle.nir_search.specs.Match.{all_bound, is_typed, match_of, matches, met, root_view}
 use Rattle.nir_search.specs.Met.{is_typed_eight, length-met}
-use Rattle.nir_mean.specs.Known.{IsKnown, Set}
+use Rattle.nir_mean.specs.Known.{IsKnown}
+use Rattle.nir_validate.specs.Edges.{Set}
 use Rattle.nir_mean.specs.Values.{Values}
 use Rattle.rule_meaning.specs.Bound.{AreBound, IsBound, IsBoundTo, all_numbered, are_bound}
 use Rattle.rule_meaning.specs.Env.{at_place, env}

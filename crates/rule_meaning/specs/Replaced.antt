@@ -33,7 +33,8 @@ use Rattle.rule_term.specs.Terms.{Terms, VarThen, LitThen}
 use Rattle.rule_term.specs.Typings.{replace_part, size_of}
 use Rattle.nir_search.specs.declared.hit.Bind.{Bind}
 use Rattle.nir_search.specs.Put.{bound_to, view_source}
-use Rattle.nir_mean.specs.Known.{HasKind, Set}
+use Rattle.nir_mean.specs.Known.{HasKind}
+use Rattle.nir_validate.specs.Edges.{Set}
 use Rattle.nir_mean.specs.Values.{Values, alu_mean, read, source_sizes}
 use Rattle.rule_meaning.specs.Env.{at_place, env}
 use Rattle.rule_meaning.specs.Fit.{component_count}

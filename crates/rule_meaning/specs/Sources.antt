@@ -25,9 +25,10 @@ use Rattle.nir_search.specs.declared.hit.Bind.{Bind}
 use Rattle.nir_search.specs.Match.{child, children, has_op, match_of, root_view, swapped}
 use Rattle.nir_search.specs.Put.{bound_to}
 use Rattle.rewrite_pass.specs.BoundViews.{GoesDown, match_bound}
-use Rattle.nir_mean.specs.Known.{IsRead, Set}
+use Rattle.nir_validate.specs.OneBlock.{IsRead}
+use Rattle.nir_validate.specs.Edges.{Set}
 use Rattle.nir_mean.specs.Points.{Closed}
-use Rattle.nir_mean.specs.Valid.{Valid}
+use Rattle.nir_mean.specs.OneBlock.{ValidBlock}
 use Rattle.rule_meaning.specs.Fit.{component_count}
 use Rattle.rule_meaning.specs.Fitting.{fit_valid, valid_fits}
 use Rattle.rule_meaning.specs.Matched.{root_eight, root_is_view}
@@ -66,7 +67,7 @@ abbrev ReadsOf : Shader → Set → ValueId → Type 0
 ReadsOf s set value =
     (op : Op) (kind : Kind) (srcs : List Src) (source : ValueId) → instr_defining value s.body ≡ Some (Alu value op kind srcs) → IsRead (Alu value op kind srcs) source → set source.0 ≡ true
 
-module _ (s : Shader) (shaped : IsShaped s) (fits : Valid s) (set : Set) (count : ℕ) where
+module _ (s : Shader) (shaped : IsShaped s) (fits : ValidBlock s) (set : Set) (count : ℕ) where
   -- from a view of 8 bits down to the views of the sources
   moved_down : (view : Bind) → IsView s.body every count view → width_at s.body view.value ≡ W8 → ReadsOf s set view.value → GoesDown s good_piece (IsMoved s set count) view
   moved_down view is eight reads op size once sources flag good applied =

@@ -30,7 +30,7 @@ use Rattle.rewrite_pass.specs.StepLaws.{first_from_table, rule_there}
 use Rattle.nir_mean.specs.Points.{defining_target}
 use Rattle.nir_mean.specs.Replaced.{same_replaced, valid_replaced, with_instr}
 use Rattle.nir_mean.specs.Same.{Same, Same-refl, Same-trans}
-use Rattle.nir_mean.specs.Valid.{Valid}
+use Rattle.nir_mean.specs.OneBlock.{ValidBlock}
 use Rattle.rule_meaning.specs.StepValue.{IsFound, new, new_fits, new_place, new_reads, new_same, old}
 
 -- each rule is formed
@@ -39,7 +39,7 @@ AllFormed rules = AllByRecursion IsFormed rules
 
 -- the shader after is shaped and valid, and means what the one before means
 abbrev pub Keeps : Shader → Shader → Type 0
-Keeps s after = IsShaped after × Valid after × Same s after
+Keeps s after = IsShaped after × ValidBlock after × Same s after
 
 formed_at : (table : List Rule) (place : ℕ) (rule : Rule) → AllFormed table → slice_get table place ≡ Some rule → IsFormed rule
 formed_at [] place rule formed at = absurd (none-some rule at)
@@ -47,7 +47,7 @@ formed_at (first ∷ rest) zero rule formed at = subst IsFormed (same_Some first
 formed_at (first ∷ rest) (suc place) rule formed at = formed_at rest place rule formed.1 at
 
 -- one rule, put where it matches
-pub put_keeps : (s after : Shader) (rule : Rule) (variant : ℕ) (value : ValueId) (binds : List Bind) → IsShaped s → Valid s → IsFormed rule → Holds rule → is_built rule ≡ true
+pub put_keeps : (s after : Shader) (rule : Rule) (variant : ℕ) (value : ValueId) (binds : List Bind) → IsShaped s → ValidBlock s → IsFormed rule → Holds rule → is_built rule ≡ true
     → match_of rule variant s.body value ≡ Some binds → put rule variant s value binds ≡ Some after → Keeps s after
 put_keeps s after rule variant value binds shaped valid formed holds built found is_put =
     let parts = and_parts (is_eight_bit rule) (is_leaf rule.replace) built in
@@ -77,7 +77,7 @@ put_keeps s after rule variant value binds shaped valid formed holds built found
       same_replaced s value before behind shaped valid place (new_same s rule variant value binds h),
     )
 
-rule_keeps : (options : Options) (table : List Rule) (s after : Shader) (value : ValueId) (number variant : ℕ) → list_all is_built table ≡ true → AllFormed table → AllHold table → IsShaped s → Valid s
+rule_keeps : (options : Options) (table : List Rule) (s after : Shader) (value : ValueId) (number variant : ℕ) → list_all is_built table ≡ true → AllFormed table → AllHold table → IsShaped s → ValidBlock s
     → rule_step options table s value number variant ≡ Some after → Keeps s after
 rule_keeps options table s after value number variant built formed holds shaped valid legal =
     let first = between (first_hit options table s.body value) (λ hit. if is_of table number variant hit then put_hit table s value hit else None) after legal in
@@ -90,7 +90,7 @@ rule_keeps options table s after value number variant built formed holds shaped 
     (sym (ap (option_and_then (λ rule. put rule hit.variant s value hit.subst)) at) ∙ own.1)
 
 -- a legal step keeps the shader shaped and valid, and what it means
-pub step_same : (options : Options) (table : List Rule) (s after : Shader) (step : Step) → list_all is_built table ≡ true → AllFormed table → AllHold table → IsShaped s → Valid s
+pub step_same : (options : Options) (table : List Rule) (s after : Shader) (step : Step) → list_all is_built table ≡ true → AllFormed table → AllHold table → IsShaped s → ValidBlock s
     → step_of options table s step ≡ Some after → Keeps s after
 step_same options table s after (step.Rule value number variant) built formed holds shaped valid legal = rule_keeps options table s after value number variant built formed holds shaped valid legal
 step_same options table s after (step.Fold value) built formed holds shaped valid legal = absurd (none-some after legal)
@@ -102,7 +102,7 @@ step_same options table s after (step.Empty at) built formed holds shaped valid 
 step_same options table s after (step.Once at) built formed holds shaped valid legal = absurd (none-some after legal)
 
 -- and so do legal steps in turn
-pub replay_same : (options : Options) (table : List Rule) (s after : Shader) (steps : List Step) → list_all is_built table ≡ true → AllFormed table → AllHold table → IsShaped s → Valid s
+pub replay_same : (options : Options) (table : List Rule) (s after : Shader) (steps : List Step) → list_all is_built table ≡ true → AllFormed table → AllHold table → IsShaped s → ValidBlock s
     → replay options table s steps ≡ Some after → Keeps s after
 replay_same options table s after [] built formed holds shaped valid legal =
     subst (Keeps s) (same_Some s after legal) (shaped, valid, Same-refl s)

@@ -32,14 +32,19 @@ use Rattle.nir_search.specs.Put.{bound_to, view_source}
 use Rattle.rewrite_pass.specs.Built.{is_leaf}
 use Rattle.rewrite_pass.specs.Leaf.{leaf_instr, target_leaf, var_below}
 use Rattle.nir_mean.specs.Block.{KnownAt, known-next}
-use Rattle.nir_mean.specs.Known.{IsRead, Set}
+use Rattle.nir_validate.specs.OneBlock.{IsRead}
+use Rattle.nir_validate.specs.Edges.{Set}
 use Rattle.nir_mean.specs.Outcome.{setting}
 use Rattle.nir_mean.specs.Points.{Closed, kind_at-defines, same_id}
 use Rattle.nir_mean.specs.Reads.{value_of-same, with_value-here, with_value-other}
 use Rattle.nir_mean.specs.Replaced.{ReadsBefore, SameValue, TakesPlace}
 use Rattle.nir_mean.specs.Run.{run_instr, value_of}
 use Rattle.nir_mean.specs.State.{State, World}
-use Rattle.nir_mean.specs.Valid.{AluFits, InstrFits, Kinds, NamesComponents, ReadsIn, Valid, set_after, width_in}
+use Rattle.nir_validate.specs.Typed.{AluFits, InstrFits, NamesComponents}
+use Rattle.nir_validate.specs.Rules.{Kinds, width_in}
+use Rattle.nir_validate.specs.OneBlock.{ReadsIn}
+use Rattle.nir_mean.specs.OneBlock.{ValidBlock}
+use Rattle.nir_validate.specs.Edges.{set_after}
 use Rattle.nir_mean.specs.Values.{Values, alu_mean}
 use Rattle.rule_meaning.specs.Fit.{component_count}
 use Rattle.rule_meaning.specs.Fitting.{fit_valid, valid_fits}
@@ -100,7 +105,7 @@ pub record IsFound (s : Shader) (rule : Rule) (variant : ℕ) (value : ValueId) 
   pub kind : Kind
   pub srcs : List Src
   pub shaped : IsShaped s
-  pub valid : Valid s
+  pub valid : ValidBlock s
   pub formed : IsFormed rule
   pub eight : is_eight_bit rule ≡ true
   pub leaf : is_leaf rule.replace ≡ true

@@ -34,7 +34,8 @@ use Rattle.rule_term.specs.Formed.{may_stand}
 use Rattle.rule_term.specs.Standing.{per_component-from_may_stand, shape-from_may_stand}
 use Rattle.nir_search.specs.declared.hit.Bind.{Bind}
 use Rattle.nir_search.specs.Match.{child, children, children_of, has_op, is_commutative, swapped, viewed_const}
-use Rattle.nir_mean.specs.Known.{IsKnown, Set}
+use Rattle.nir_mean.specs.Known.{IsKnown}
+use Rattle.nir_validate.specs.Edges.{Set}
 use Rattle.nir_mean.specs.Points.{Closed}
 use Rattle.nir_mean.specs.Values.{Values, alu_mean, read, source_sizes}
 use Rattle.rule_meaning.specs.Env.{at_place}

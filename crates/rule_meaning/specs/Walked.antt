@@ -35,7 +35,8 @@ use Rattle.rule_term.specs.Terms.{Terms, Nil, VarThen, LitThen, AppThen}
 use Rattle.rule_term.specs.Typings.{occurrences, roots, same_width, size_of}
 use Rattle.nir_search.specs.declared.hit.Bind.{Bind}
 use Rattle.nir_search.specs.Match.{bind, bits_behind, bits_left, children, has_op, is_applied, is_commutative, is_literal, is_swapped, is_taken, matches, meets, met}
-use Rattle.nir_mean.specs.Known.{IsKnown, Set}
+use Rattle.nir_mean.specs.Known.{IsKnown}
+use Rattle.nir_validate.specs.Edges.{Set}
 use Rattle.nir_mean.specs.Values.{Values}
 use Rattle.rule_meaning.specs.Bound.{AreViews, Extends, IsBound, IsBoundTo, IsTaken, taken}
 use Rattle.rule_meaning.specs.Env.{at_place}

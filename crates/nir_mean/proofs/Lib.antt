@@ -1,0 +1,12 @@
+pub mod ByteLemmas
+pub mod MadeLemmas
+pub mod TableLemmas
+pub mod AluLemmas
+pub mod PhiLemmas
+pub mod FrameLemmas
+pub mod StepLemmas
+pub mod DeclareLemmas
+pub mod StartLemmas
+pub mod WordLemmas
+pub mod TextLemmas
+pub mod FitLemmas
