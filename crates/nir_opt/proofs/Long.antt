@@ -1,17 +1,51 @@
--- A text that is too long is not of the form that is built.
-use Rattle.std.proofs.Common.{◌≡◌, ℕ, ◌<◌, ◌≤◌, List, ◌++◌, length, None, refl, ap, arith, length-append}
+-- What is answered on a text by its length, its fault, the rule that its shader breaks, or its form.
+use Rattle.std.proofs.Common.{◌≡◌, ℕ, ◌<◌, List, ◌++◌, length, None, Some, refl, sym, ap, ◌∙◌, arith, length-append}
+use Rattle.std.specs.Prelude.{Bool, true, false, Ok, Err, if◌then◌else◌}
 use Rattle.std.proofs.lemmas.Bool.{lt-leb}
-use Rattle.nir_opt.specs.FirstForm.{first_shader}
+use Rattle.std.proofs.lemmas.Option.{none-some, same_Some}
+use Rattle.nir_host.specs.declared.fault.Which.TheVariants as which
+use Rattle.nir_ir.specs.Shader.{Shader}
+use Rattle.nir_text.specs.declared.fault.TextFault.{TextFault}
+use Rattle.nir_mean.specs.ShaderText.{Faulty, Invalid, Sound, answer_of}
+use Rattle.nir_mean.specs.ShaderText as answer
+use Rattle.nir_opt.specs.declared.status.Status.TheVariants.{ShaderSyntax, ShaderInvalid, TooLong, NotBuilt}
+use Rattle.nir_opt.specs.Answers.{answer_on, shader_answer}
+use Rattle.nir_opt.specs.FirstForm.{is_of_first_form}
 use Rattle.nir_opt.specs.FirstRules.{first_rules}
 
 pub first_rules-long : (text : List ℕ) → 65536 < length text → first_rules text ≡ None
 unfolding first_rules
 first_rules-long text long = rw (lt-leb (length text) 65536 long) refl
 
-pub first_shader-long : (text : List ℕ) → 65536 < length text → first_shader text ≡ None
-unfolding first_shader
-first_shader-long text long = rw (lt-leb (length text) 65536 long) refl
-
 -- what was taken is no longer than the whole
-pub longer : (text taken rest : List ℕ) (max : ℕ) → text ≡ taken ++ rest → max < length taken → 65536 ≤ max → 65536 < length text
-longer text taken rest max parts more most = omega (arith, ap length parts, length-append taken rest)
+pub longer : (text taken rest : List ℕ) (max : ℕ) → text ≡ taken ++ rest → max < length taken → max < length text
+longer text taken rest max parts more = omega (arith, ap length parts, length-append taken rest)
+
+pub answer_long : (text : List ℕ) → answer_of text ≡ answer.TooLong → shader_answer text ≡ Err (TooLong which.Shader)
+unfolding shader_answer
+answer_long text is = ap (answer_on text) is
+
+pub answer_fault : (text : List ℕ) (fault : TextFault) → answer_of text ≡ Faulty fault → shader_answer text ≡ Err (ShaderSyntax fault)
+unfolding shader_answer
+answer_fault text fault is = ap (answer_on text) is
+
+pub answer_invalid : (text : List ℕ) (rule item : ℕ) → answer_of text ≡ Invalid rule item → shader_answer text ≡ Err (ShaderInvalid rule item)
+unfolding shader_answer
+answer_invalid text rule item is = ap (answer_on text) is
+
+-- by the test of the form
+built_is : (form : Bool) (read found : Shader) → Some found ≡ (if form then Some read else None) → (if form then Ok read else Err (NotBuilt which.Shader)) ≡ Ok found
+built_is true read found h = ap Ok (sym (same_Some found read h))
+built_is false read found h = absurd (none-some found (sym h))
+
+other_is : (form : Bool) (read : Shader) → None ≡ (if form then Some read else None) → (if form then Ok read else Err (NotBuilt which.Shader)) ≡ Err (NotBuilt which.Shader)
+other_is true read h = absurd (none-some read h)
+other_is false read h = refl
+
+pub answer_built : (text : List ℕ) (read found : Shader) → answer_of text ≡ Sound read → Some found ≡ (if is_of_first_form text read then Some read else None) → shader_answer text ≡ Ok found
+unfolding shader_answer
+answer_built text read found is form = ap (answer_on text) is ∙ built_is (is_of_first_form text read) read found form
+
+pub answer_other : (text : List ℕ) (read : Shader) → answer_of text ≡ Sound read → None ≡ (if is_of_first_form text read then Some read else None) → shader_answer text ≡ Err (NotBuilt which.Shader)
+unfolding shader_answer
+answer_other text read is form = ap (answer_on text) is ∙ other_is (is_of_first_form text read) read form

@@ -1,24 +1,24 @@
--- A body that is one block: which bodies are, and which instructions they have.
-use Rattle.std.proofs.Common.{◌≡◌, List, [], ◌∷◌, ◌++◌, length, map, get_or, Option, Some, None, refl, sym, ap, subst, ◌∙◌, sum_by, append_assoc, arith}
+-- A body that is one block: which bodies are, what it weighs, and that it is valid where its shader is.
+use Rattle.std.proofs.Common.{◌≡◌, List, [], ◌∷◌, length, get_or, Option, Some, None, refl, sym, ap, subst, ◌∙◌, sum_by, arith}
+use Rattle.std.specs.Prelude.{Bool, true, false, nat_eq, if◌then◌else◌}
+use Rattle.std.specs.List.{list_all}
+use Rattle.std.proofs.lemmas.Bool.{true≢false}
 use Rattle.std.proofs.lemmas.List.{append-nil}
-use Rattle.std.specs.Option.{option_to_list}
-use Rattle.std.specs.List.{flat_map}
 use Rattle.nir_ir.specs.declared.ids.IfId.{IfId}
 use Rattle.nir_ir.specs.declared.ids.LoopId.{LoopId}
 use Rattle.nir_ir.specs.declared.ids.ValueId.{ValueId}
-use Rattle.nir_ir.specs.declared.instr.Instr.{Instr}
 use Rattle.nir_ir.specs.declared.node.Block as block
-use Rattle.nir_ir.specs.declared.node.Jump.{Jump}
-use Rattle.nir_ir.specs.declared.node.Phi.{Phi}
 use Rattle.nir_ir.specs.declared.node.Node.{Node, Node-F, out-Node, roll-Node, roll-out-Node}
 use Rattle.nir_ir.specs.declared.node.Node.TheVariants as node
 use Rattle.nir_ir.specs.declared.node.Node.TheOpen as layer
 use Rattle.nir_ir.specs.Nodes.{Nodes, Nil, BlockThen, IfThen, LoopThen, nodes_of, before, before-block, before-if, before-loop}
-use Rattle.nir_ir.specs.Items.{Item, BlockHead, PhiItem, InstrItem, JumpItem, block_items}
-use Rattle.nir_ir.specs.Definitions.{instr_of, instrs}
+use Rattle.nir_ir.specs.Definitions.{instrs}
 use Rattle.nir_ir.specs.Shader.{Shader}
+use Rattle.nir_ir.specs.Splits.{instrs-BlockThen}
+use Rattle.nir_validate.specs.Valid.{Valid}
+use Rattle.nir_mean.specs.OneBlock.{ValidBlock, block_from_valid}
 use Rattle.nir_search.specs.Weight.{instr_weight, weight_of}
-use Rattle.nir_opt.specs.FirstForm.{only_block}
+use Rattle.nir_opt.specs.FirstForm.{body_fits, is_first_form, is_w8x1, only_block}
 
 module _ (P : Node → Type 0) (b : (x : block.Block) → P (node.Block x)) (i : (id : IfId) (cond : ValueId) (first second : List Node) → P (node.If id cond first second)) (l : (id : LoopId) (body : List Node) → P (node.Loop id body)) where
   by_layer : (y : Node-F Node) → P (roll-Node y)
@@ -65,34 +65,27 @@ body-only_block (BlockThen c (LoopThen id body rest)) b e = absurd (cc)
 body-only_block (IfThen id cond first second rest) b e = absurd (cc)
 body-only_block (LoopThen id body rest) b e = absurd (cc)
 
-flat_append : (xs ys : List Item) → flat_map instr_of (xs ++ ys) ≡ flat_map instr_of xs ++ flat_map instr_of ys
-flat_append [] ys = refl
-flat_append (x ∷ xs) ys = ap (λ (r : List Instr). instr_of x ++ r) (flat_append xs ys) ∙ sym (append_assoc (instr_of x) (flat_map instr_of xs) (flat_map instr_of ys))
-
-no_phis : (phis : List Phi) → flat_map instr_of (map PhiItem phis) ≡ []
-no_phis [] = refl
-no_phis (phi ∷ phis) = no_phis phis
-
-all_instrs : (list : List Instr) → flat_map instr_of (map InstrItem list) ≡ list
-all_instrs [] = refl
-all_instrs (instr ∷ list) = ap (λ (r : List Instr). instr ∷ r) (all_instrs list)
-
-no_jump : (jump : Option Jump) → flat_map instr_of (map JumpItem (option_to_list jump)) ≡ []
-no_jump None = refl
-no_jump (Some jump) = refl
-
 -- one block has its instructions and no others
-pub instrs-one_block : (b : block.Block) → instrs (BlockThen b Nil) ≡ b.instrs
-instrs-one_block b =
-    let head = BlockHead b.id ∷ map PhiItem b.phis in
-    flat_append (block_items b) []
-    ∙ append-nil (flat_map instr_of (block_items b))
-    ∙ flat_append (head ++ map InstrItem b.instrs) (map JumpItem (option_to_list b.jump))
-    ∙ ap (λ (r : List Instr). flat_map instr_of (head ++ map InstrItem b.instrs) ++ r) (no_jump b.jump)
-    ∙ append-nil (flat_map instr_of (head ++ map InstrItem b.instrs))
-    ∙ flat_append head (map InstrItem b.instrs)
-    ∙ ap (λ (r : List Instr). r ++ flat_map instr_of (map InstrItem b.instrs)) (no_phis b.phis)
-    ∙ all_instrs b.instrs
-
 pub weight-one_block : (s : Shader) (b : block.Block) → Some b ≡ only_block s.body → sum_by instr_weight b.instrs ≡ weight_of s
-weight-one_block s b e = ap (sum_by instr_weight) (sym (instrs-one_block b)) ∙ ap (λ (nodes : Nodes). sum_by instr_weight (instrs nodes)) (sym (body-only_block s.body b e))
+weight-one_block s b e =
+    ap (sum_by instr_weight) (sym (append-nil b.instrs) ∙ sym (instrs-BlockThen b Nil))
+    ∙ ap (λ (nodes : Nodes). sum_by instr_weight (instrs nodes)) (sym (body-only_block s.body b e))
+
+-- a shader of the form that is built has one block
+both : (a b : Bool) → (if a then b else false) ≡ true → b ≡ true
+both true b h = h
+both false b h = absurd (true≢false (sym h))
+
+fitting : (s : Shader) (found : Option block.Block) → found ≡ only_block s.body → body_fits found ≡ true → Valid s → ValidBlock s
+fitting s None is fit valid = absurd (true≢false (sym fit))
+fitting s (Some b) is fit valid = block_from_valid s b (body-only_block s.body b is) valid
+
+pub valid_block : (s : Shader) → is_first_form s ≡ true → Valid s → ValidBlock s
+unfolding is_first_form
+valid_block s form valid =
+    let fit : Bool = body_fits (only_block s.body) in
+    let outputs : Bool = if list_all is_w8x1 s.outputs then fit else false in
+    let inputs : Bool = if list_all is_w8x1 s.inputs then outputs else false in
+    fitting s (only_block s.body) refl
+    (both (list_all is_w8x1 s.outputs) fit (both (list_all is_w8x1 s.inputs) outputs (both (nat_eq s.buffers 0) inputs form)))
+    valid

@@ -1,59 +1,76 @@
 -- The form of a rule by its sides, term by term.
-use Rattle.std.specs.Prelude.{◌≡◌, refl, ◌<◌, ◌+◌, ℕ, ℤ, Bool, true, false, not, ◌&&◌, Option, List, [], ◌∷◌, length, is_none}
-use Rattle.std.proofs.Common.{◌∙◌, ap, get_or, drop}
+use Rattle.std.specs.Prelude.{◌≡◌, ◌<◌, ◌+◌, ℕ, suc, ℤ, Bool, true, false, not, ◌&&◌, Option, List, [], ◌∷◌, length, is_none}
+use Rattle.std.proofs.Common.{◌∙◌, ap, get_or, drop, length-append, arith}
 use Rattle.std.proofs.Math.Bool.{and-true}
+use Rattle.std.proofs.lemmas.List.{append-nil}
+use Rattle.std.proofs.lemmas.List.Folds.{list_all-append}
+use Rattle.std.proofs.lemmas.List.Concat.{flat_map-append}
+use Rattle.std.specs.List.{flat_map, list_all}
 use Rattle.nir_ops.specs.declared.op.Op.{Op}
 use Rattle.nir_ops.specs.declared.width.Width.{Width}
 use Rattle.rule_term.specs.declared.cond.Cond.{Cond}
 use Rattle.rule_term.specs.declared.term.Term.{Term}
 use Rattle.rule_term.specs.declared.term.Term.TheVariants as term
-use Rattle.rule_term.specs.Lists as lists
 use Rattle.rule_term.specs.Lists.{terms_of-app, terms_of-drop, terms_of-lit, terms_of-var}
-use Rattle.rule_term.specs.Terms.{Terms, Nil, VarThen, LitThen, AppThen, terms_of}
-use Rattle.nir_opt.specs.FirstRules.{are_plain, is_sum, is_sum_op, is_variable}
+use Rattle.rule_term.specs.Pieces.{op_of, ops_of, pieces}
+use Rattle.rule_term.specs.Splits.{pieces-then}
+use Rattle.rule_term.specs.Terms.{Terms, terms_of}
+use Rattle.rewrite_pass.specs.Built.{is_leaf}
+use Rattle.nir_opt.specs.FirstRules.{is_first_piece, is_rule_op}
 
-pub plain-var : (var : ℕ) (constant : Bool) (size : Option Width) (cond : Option Cond) → are_plain (terms_of (term.Var var constant size cond ∷ [])) ≡ (not constant && is_none cond)
-plain-var var constant size cond = ap are_plain (terms_of-var var constant size cond) ∙ and-true (not constant && is_none cond)
+abbrev are_first : Terms → Bool
+are_first terms = list_all is_first_piece (pieces terms)
 
-pub plain-lit : (value : ℤ) (boolean : Bool) → are_plain (terms_of (term.Lit value boolean ∷ [])) ≡ true
-plain-lit value boolean = ap are_plain (terms_of-lit value boolean)
+pub plain-var : (var : ℕ) (constant : Bool) (size : Option Width) (cond : Option Cond) → are_first (terms_of (term.Var var constant size cond ∷ [])) ≡ (not constant && is_none cond)
+plain-var var constant size cond = ap are_first (terms_of-var var constant size cond) ∙ and-true (not constant && is_none cond)
 
-pub plain-app : (op : Op) (size : Option Width) (once : Bool) (args : List Term) → are_plain (terms_of (term.App op size once args ∷ [])) ≡ false
-plain-app op size once args = ap are_plain (terms_of-app op size once args)
+pub plain-lit : (value : ℤ) (boolean : Bool) → are_first (terms_of (term.Lit value boolean ∷ [])) ≡ true
+plain-lit value boolean = ap are_first (terms_of-lit value boolean)
 
-and_assoc : (a b c : Bool) → (a && (b && c)) ≡ ((a && b) && c)
-and_assoc true b c = refl
-and_assoc false b c = refl
+pub plain-app : (op : Op) (size : Option Width) (once : Bool) (args : List Term) → are_first (terms_of (term.App op size once args ∷ [])) ≡ (is_rule_op op && are_first (terms_of args))
+plain-app op size once args =
+    ap are_first (terms_of-app op size once args)
+    ∙ ap (λ l. is_rule_op op && list_all is_first_piece l) (append-nil (pieces (terms_of args)))
 
-plain-then : (a b : Terms) → are_plain (lists.then a b) ≡ (are_plain a && are_plain b)
-plain-then Nil b = refl
-plain-then (VarThen var constant size cond rest) b = ap (λ t. (not constant && is_none cond) && t) (plain-then rest b) ∙ and_assoc (not constant && is_none cond) (are_plain rest) (are_plain b)
-plain-then (LitThen value boolean rest) b = plain-then rest b
-plain-then (AppThen op size once args rest) b = refl
-
-pub plain-drop : (list : List Term) (i : ℕ) (t : Term) → i < length list → t ≡ get_or list i t → are_plain (terms_of (drop i list)) ≡ (are_plain (terms_of (t ∷ [])) && are_plain (terms_of (drop (i + 1) list)))
-plain-drop list i t within at = ap are_plain (terms_of-drop list i t within at) ∙ plain-then (terms_of (t ∷ [])) (terms_of (drop (i + 1) list))
+pub plain-drop : (list : List Term) (i : ℕ) (t : Term) → i < length list → t ≡ get_or list i t → are_first (terms_of (drop i list)) ≡ (are_first (terms_of (t ∷ [])) && are_first (terms_of (drop (i + 1) list)))
+plain-drop list i t within at =
+    ap are_first (terms_of-drop list i t within at)
+    ∙ ap (list_all is_first_piece) (pieces-then (terms_of (t ∷ [])) (terms_of (drop (i + 1) list)))
+    ∙ list_all-append is_first_piece (pieces (terms_of (t ∷ []))) (pieces (terms_of (drop (i + 1) list)))
 
 pub ruleset plain_steps = (plain-var, plain-lit, plain-app, plain-drop)
 
-pub sum-var : (var : ℕ) (constant : Bool) (size : Option Width) (cond : Option Cond) → is_sum (terms_of (term.Var var constant size cond ∷ [])) ≡ false
-sum-var var constant size cond = ap is_sum (terms_of-var var constant size cond)
+abbrev count : Terms → ℕ
+count terms = length (ops_of terms)
 
-pub sum-lit : (value : ℤ) (boolean : Bool) → is_sum (terms_of (term.Lit value boolean ∷ [])) ≡ false
-sum-lit value boolean = ap is_sum (terms_of-lit value boolean)
+pub ops-var : (var : ℕ) (constant : Bool) (size : Option Width) (cond : Option Cond) → count (terms_of (term.Var var constant size cond ∷ [])) ≡ 0
+ops-var var constant size cond = ap count (terms_of-var var constant size cond)
 
-pub sum-app : (op : Op) (size : Option Width) (once : Bool) (args : List Term) → is_sum (terms_of (term.App op size once args ∷ [])) ≡ (is_sum_op op && are_plain (terms_of args))
-sum-app op size once args = ap is_sum (terms_of-app op size once args)
+pub ops-lit : (value : ℤ) (boolean : Bool) → count (terms_of (term.Lit value boolean ∷ [])) ≡ 0
+ops-lit value boolean = ap count (terms_of-lit value boolean)
 
-pub ruleset sum_steps = (sum-var, sum-lit, sum-app)
+pub ops-app : (op : Op) (size : Option Width) (once : Bool) (args : List Term) → count (terms_of (term.App op size once args ∷ [])) ≡ count (terms_of args) + 1
+ops-app op size once args =
+    ap count (terms_of-app op size once args)
+    ∙ ap (λ l. suc (length (flat_map op_of l))) (append-nil (pieces (terms_of args)))
+    ∙ omega arith
 
-pub variable-var : (var : ℕ) (constant : Bool) (size : Option Width) (cond : Option Cond) → is_variable (terms_of (term.Var var constant size cond ∷ [])) ≡ true
-variable-var var constant size cond = ap is_variable (terms_of-var var constant size cond)
+pub ops-drop : (list : List Term) (i : ℕ) (t : Term) → i < length list → t ≡ get_or list i t → count (terms_of (drop i list)) ≡ count (terms_of (t ∷ [])) + count (terms_of (drop (i + 1) list))
+ops-drop list i t within at =
+    ap count (terms_of-drop list i t within at)
+    ∙ ap (λ l. length (flat_map op_of l)) (pieces-then (terms_of (t ∷ [])) (terms_of (drop (i + 1) list)))
+    ∙ ap length (flat_map-append op_of (pieces (terms_of (t ∷ []))) (pieces (terms_of (drop (i + 1) list))))
+    ∙ length-append (ops_of (terms_of (t ∷ []))) (ops_of (terms_of (drop (i + 1) list)))
 
-pub variable-lit : (value : ℤ) (boolean : Bool) → is_variable (terms_of (term.Lit value boolean ∷ [])) ≡ false
-variable-lit value boolean = ap is_variable (terms_of-lit value boolean)
+pub ruleset ops_steps = (ops-var, ops-lit, ops-app, ops-drop)
 
-pub variable-app : (op : Op) (size : Option Width) (once : Bool) (args : List Term) → is_variable (terms_of (term.App op size once args ∷ [])) ≡ false
-variable-app op size once args = ap is_variable (terms_of-app op size once args)
+pub leaf-var : (var : ℕ) (constant : Bool) (size : Option Width) (cond : Option Cond) → is_leaf (terms_of (term.Var var constant size cond ∷ [])) ≡ true
+leaf-var var constant size cond = ap is_leaf (terms_of-var var constant size cond)
 
-pub ruleset variable_steps = (variable-var, variable-lit, variable-app)
+pub leaf-lit : (value : ℤ) (boolean : Bool) → is_leaf (terms_of (term.Lit value boolean ∷ [])) ≡ true
+leaf-lit value boolean = ap is_leaf (terms_of-lit value boolean)
+
+pub leaf-app : (op : Op) (size : Option Width) (once : Bool) (args : List Term) → is_leaf (terms_of (term.App op size once args ∷ [])) ≡ false
+leaf-app op size once args = ap is_leaf (terms_of-app op size once args)
+
+pub ruleset leaf_steps = (leaf-var, leaf-lit, leaf-app)

@@ -1,64 +1,54 @@
 -- What the form of a rule file says of its table, and what a run's parts say of its work.
-use Rattle.std.specs.Prelude.{◌≡◌, refl, ◌+◌, ℕ, true, ◌&&◌, List, [], ◌∷◌, length, nat_lt, Some}
-use Rattle.std.proofs.Common.{sym, ap, subst}
-use Rattle.std.proofs.lemmas.Bool.{and_from, and_parts, true≢false}
+use Rattle.std.specs.Prelude.{◌≡◌, refl, ◌+◌, ℕ, true, ◌&&◌, List, [], ◌∷◌, length, nat_le, Ok, Some}
+use Rattle.std.proofs.Common.{ap, subst}
+use Rattle.std.proofs.lemmas.Bool.{and_from, and_parts}
 use Rattle.std.specs.List.{list_all}
 use Rattle.nir_ir.specs.declared.journal.Step.{Step}
 use Rattle.nir_ir.specs.Shader.{Shader}
 use Rattle.nir_ir.specs.Shaped.{IsShaped}
 use Rattle.rule_term.specs.EightBit.{is_eight_bit}
 use Rattle.rule_term.specs.Rule.{Rule}
-use Rattle.rule_term.specs.Terms.{Terms, Nil, VarThen, LitThen, AppThen}
 use Rattle.rule_read.specs.declared.entry.Entry.{Entry}
 use Rattle.rule_read.specs.RuleFile.{RuleFile}
 use Rattle.rule_check.specs.Accepted.{is_tried, rules_of, stands_at_eight}
 use Rattle.rewrite_pass.specs.Built.{is_built, is_leaf}
 use Rattle.nir_mean.specs.Same.{Same}
-use Rattle.nir_mean.specs.Valid.{Valid}
+use Rattle.nir_validate.specs.Valid.{Valid}
 use Rattle.nir_search.specs.Steps.{replay, is_settled}
 use Rattle.nir_search.specs.Weight.{weight_of}
-use Rattle.nir_opt.specs.FirstForm.{first_shader}
-use Rattle.nir_opt.specs.FirstRules.{are_first_rules, first_rules, is_first_entry, is_first_rule, is_sum, is_variable}
+use Rattle.nir_opt.specs.Answers.{shader_answer}
+use Rattle.nir_opt.specs.FirstRules.{are_first_rules, first_rules, is_first_entry, is_first_rule, is_first_search, is_from_to}
 use Rattle.nir_opt.specs.Work.{IsWork, no_options}
 
 -- what the form says of a file's entries
 pub record IsFirst (entries : List Entry) : Type 0 where
   pub eight : list_all stands_at_eight entries ≡ true
   pub tried : list_all is_tried entries ≡ true
-  pub sums : list_all is_first_entry entries ≡ true
+  pub first : list_all is_first_entry entries ≡ true
 
 pub first_entries : (file : RuleFile) → are_first_rules file ≡ true → IsFirst file.entries
 unfolding are_first_rules
 first_entries file h =
-    let outer = and_parts (nat_lt (length file.entries) 2) ((list_all stands_at_eight file.entries && list_all is_tried file.entries) && list_all is_first_entry file.entries) h in
+    let outer = and_parts (nat_le (length file.entries) 16) ((list_all stands_at_eight file.entries && list_all is_tried file.entries) && list_all is_first_entry file.entries) h in
     let inner = and_parts (list_all stands_at_eight file.entries && list_all is_tried file.entries) (list_all is_first_entry file.entries) outer.1 in
     let ready = and_parts (list_all stands_at_eight file.entries) (list_all is_tried file.entries) inner.0 in
-    record { eight = ready.0; tried = ready.1; sums = inner.1 }
-
-leaf_of_variable : (terms : Terms) → is_variable terms ≡ true → is_leaf terms ≡ true
-leaf_of_variable Nil h = absurd (true≢false (sym h))
-leaf_of_variable (VarThen var constant size cond Nil) h = refl
-leaf_of_variable (VarThen var constant size cond (VarThen v c s d rest)) h = absurd (true≢false (sym h))
-leaf_of_variable (VarThen var constant size cond (LitThen value boolean rest)) h = absurd (true≢false (sym h))
-leaf_of_variable (VarThen var constant size cond (AppThen op s once args rest)) h = absurd (true≢false (sym h))
-leaf_of_variable (LitThen value boolean rest) h = absurd (true≢false (sym h))
-leaf_of_variable (AppThen op size once args rest) h = absurd (true≢false (sym h))
+    record { eight = ready.0; tried = ready.1; first = inner.1 }
 
 -- rules of the form are built
 pub all_built : (entries : List Entry) → list_all stands_at_eight entries ≡ true → list_all is_first_entry entries ≡ true → list_all is_built (rules_of entries) ≡ true
-all_built [] eight sums = refl
-all_built (entry ∷ rest) eight sums =
+all_built [] eight firsts = refl
+all_built (entry ∷ rest) eight firsts =
     let eights = and_parts (is_eight_bit entry.rule) (list_all stands_at_eight rest) eight in
-    let firsts = and_parts (is_first_rule entry.rule) (list_all is_first_entry rest) sums in
-    let parts = and_parts (is_sum entry.rule.search) (is_variable entry.rule.replace && nat_lt entry.rule.vars 3) firsts.0 in
-    let variable = and_parts (is_variable entry.rule.replace) (nat_lt entry.rule.vars 3) parts.1 in
+    let here = and_parts (is_first_rule entry.rule) (list_all is_first_entry rest) firsts in
+    let parts = and_parts (is_first_search entry.rule.search) (is_leaf entry.rule.replace && is_from_to 1 2 entry.rule.vars) here.0 in
+    let leaf = and_parts (is_leaf entry.rule.replace) (is_from_to 1 2 entry.rule.vars) parts.1 in
     and_from (is_built entry.rule) (list_all is_built (rules_of rest))
-    (and_from (is_eight_bit entry.rule) (is_leaf entry.rule.replace) eights.0 (leaf_of_variable entry.rule.replace variable.0))
-    (all_built rest eights.1 firsts.1)
+    (and_from (is_eight_bit entry.rule) (is_leaf entry.rule.replace) eights.0 leaf.0)
+    (all_built rest eights.1 here.1)
 
 -- the work of a run, from what its parts told
 pub work_is : (rules shader : List ℕ) (file : RuleFile) (read last : Shader) (table : List Rule) (names : List (List ℕ)) (journal : List Step) (rewrites weight : ℕ)
-    → first_rules rules ≡ Some file → first_shader shader ≡ Some read → names ≡ [] → table ≡ rules_of file.entries
+    → first_rules rules ≡ Some file → shader_answer shader ≡ Ok read → names ≡ [] → table ≡ rules_of file.entries
     → replay (record { names = names }) table read journal ≡ Some last → is_settled (record { names = names }) table last ≡ true
     → rewrites ≡ length journal → weight_of last + rewrites ≡ weight_of read → weight ≡ weight_of read → IsShaped last → Valid last → Same read last
     → IsWork rules shader journal rewrites (weight + 4096) last

@@ -1,5 +1,5 @@
 -- What each status says of the words, of the texts of the two sources, and which line it writes.
-use Rattle.std.specs.Prelude.{◌≡◌, ℕ, Bool, true, false, not, ◌++◌, List, [], ◌∷◌, codes, decimal, IsSome, Option, Some, None, nat_eq, ⊤}
+use Rattle.std.specs.Prelude.{◌≡◌, ℕ, Bool, true, false, not, ◌++◌, List, [], ◌∷◌, codes, decimal, IsOk, Option, Some, None, Result, Ok, Err, nat_eq, if◌then◌else◌, ⊤}
 use Rattle.std.specs.List.{starts_with}
 use Rattle.nir_host.specs.declared.fault.Which.{Which}
 use Rattle.nir_host.specs.declared.fault.Which.TheVariants.{Rules, Shader}
@@ -9,9 +9,13 @@ use Rattle.rule_check.specs.declared.refused.RuleCause.{RuleCause}
 use Rattle.rule_check.specs.declared.refused.RuleCause.TheVariants.{Cases, TooManyCases}
 use Rattle.rule_check.specs.Accepted.{refusal_of}
 use Rattle.rule_read.specs.RuleFile.{RuleFile}
+use Rattle.nir_mean.specs.Faults.{fault_place, fault_text}
+use Rattle.nir_mean.specs.ShaderText.{Answer, Faulty, Invalid, Sound, answer_of}
+use Rattle.nir_mean.specs.ShaderText as answer
 use Rattle.nir_opt.specs.declared.status.Status.{Status}
-use Rattle.nir_opt.specs.declared.status.Status.TheVariants.{Usage, ReadFault, WriteFault, RuleRefused, NotBuilt, OutOfMemory}
+use Rattle.nir_opt.specs.declared.status.Status.TheVariants.{Usage, ReadFault, WriteFault, RuleRefused, ShaderSyntax, ShaderInvalid, NotBuilt, OutOfMemory}
 use Rattle.nir_opt.specs.declared.status.Status.TheVariants as status
+use Rattle.nir_opt.specs.FirstForm.{is_of_first_form}
 
 -- one word, that does not begin with `--`
 abbrev pub has_reading : List (List ℕ) → Bool
@@ -25,8 +29,24 @@ number_of Usage = 2
 number_of (ReadFault which) = 3
 number_of WriteFault = 4
 number_of (RuleRefused refused) = 6
-number_of (NotBuilt which) = 12
+number_of (ShaderSyntax fault) = 7
+number_of (ShaderInvalid rule item) = 8
+number_of (status.TooLong which) = 9
 number_of OutOfMemory = 10
+number_of (NotBuilt which) = 12
+
+-- the place of a syntax fault, else 0
+abbrev pub place_of : Status → ℕ
+place_of status.Ok = 0
+place_of Usage = 0
+place_of (ReadFault which) = 0
+place_of WriteFault = 0
+place_of (RuleRefused refused) = 0
+place_of (ShaderSyntax fault) = fault_place fault
+place_of (ShaderInvalid rule item) = 0
+place_of (status.TooLong which) = 0
+place_of OutOfMemory = 0
+place_of (NotBuilt which) = 0
 
 -- the rules of a file are accepted, or this is the first that is not; no file is neither
 abbrev pub AreAccepted : Option RuleFile → Type 0
@@ -45,20 +65,39 @@ RulesFit (ReadFault Rules) file = ⊤
 RulesFit (ReadFault Shader) file = AreAccepted file
 RulesFit WriteFault file = AreAccepted file
 RulesFit (RuleRefused refused) file = AreRefused refused file
+RulesFit (ShaderSyntax fault) file = AreAccepted file
+RulesFit (ShaderInvalid rule item) file = AreAccepted file
+RulesFit (status.TooLong Rules) file = ⊥
+RulesFit (status.TooLong Shader) file = AreAccepted file
+RulesFit OutOfMemory file = ⊤
 RulesFit (NotBuilt Rules) file = file ≡ None
 RulesFit (NotBuilt Shader) file = AreAccepted file
-RulesFit OutOfMemory file = ⊤
 
--- and this of the shader of the shader text, where it is built
-abbrev pub ShaderFits : Status → Option ir.Shader → Type 0
-ShaderFits status.Ok shader = IsSome shader
-ShaderFits Usage shader = ⊤
-ShaderFits (ReadFault which) shader = ⊤
-ShaderFits WriteFault shader = IsSome shader
-ShaderFits (RuleRefused refused) shader = ⊤
-ShaderFits (NotBuilt Rules) shader = ⊤
-ShaderFits (NotBuilt Shader) shader = shader ≡ None
-ShaderFits OutOfMemory shader = ⊤
+-- what becomes of a text that holds a valid shader or not
+abbrev pub answer_on : List ℕ → Answer → Result ir.Shader Status
+answer_on text answer.TooLong = Err (status.TooLong Shader)
+answer_on text (Faulty fault) = Err (ShaderSyntax fault)
+answer_on text (Invalid rule item) = Err (ShaderInvalid rule item)
+answer_on text (Sound shader) = if is_of_first_form text shader then Ok shader else Err (NotBuilt Shader)
+
+-- the shader of a shader text that is built, or the status for every other text
+unfoldable pub shader_answer : List ℕ → Result ir.Shader Status
+shader_answer text = answer_on text (answer_of text)
+
+-- and this of the shader text: it is built, or the status is the one for it, or nothing
+abbrev pub ShaderFits : Status → Result ir.Shader Status → Type 0
+ShaderFits status.Ok answer = IsOk answer
+ShaderFits Usage answer = ⊤
+ShaderFits (ReadFault which) answer = ⊤
+ShaderFits WriteFault answer = IsOk answer
+ShaderFits (RuleRefused refused) answer = ⊤
+ShaderFits (ShaderSyntax fault) answer = answer ≡ Err (ShaderSyntax fault)
+ShaderFits (ShaderInvalid rule item) answer = answer ≡ Err (ShaderInvalid rule item)
+ShaderFits (status.TooLong Rules) answer = ⊤
+ShaderFits (status.TooLong Shader) answer = answer ≡ Err (status.TooLong Shader)
+ShaderFits OutOfMemory answer = ⊤
+ShaderFits (NotBuilt Rules) answer = ⊤
+ShaderFits (NotBuilt Shader) answer = answer ≡ Err (NotBuilt Shader)
 
 abbrev pub which_text : Which → List ℕ
 which_text Rules = codes "rules"
@@ -72,9 +111,13 @@ is_of_rules (ReadFault Rules) = true
 is_of_rules (ReadFault Shader) = false
 is_of_rules WriteFault = false
 is_of_rules (RuleRefused refused) = true
+is_of_rules (ShaderSyntax fault) = false
+is_of_rules (ShaderInvalid rule item) = false
+is_of_rules (status.TooLong Rules) = true
+is_of_rules (status.TooLong Shader) = false
+is_of_rules OutOfMemory = false
 is_of_rules (NotBuilt Rules) = true
 is_of_rules (NotBuilt Shader) = false
-is_of_rules OutOfMemory = false
 
 -- the whole text was taken, or there was no memory
 abbrev pub EndsWell : Status → Type 0
@@ -83,8 +126,11 @@ EndsWell Usage = ⊥
 EndsWell (ReadFault which) = ⊥
 EndsWell WriteFault = ⊥
 EndsWell (RuleRefused refused) = ⊥
-EndsWell (NotBuilt which) = ⊥
+EndsWell (ShaderSyntax fault) = ⊥
+EndsWell (ShaderInvalid rule item) = ⊥
+EndsWell (status.TooLong which) = ⊥
 EndsWell OutOfMemory = ⊤
+EndsWell (NotBuilt which) = ⊥
 
 -- numbers with a comma and a blank between them
 abbrev pub values_text : List ℕ → List ℕ
@@ -108,6 +154,10 @@ typing_text (Some typing) = codes " typing " ++ decimal typing
 abbrev pub refusal_text : Refused → List ℕ
 refusal_text refused = codes "rule " ++ decimal refused.rule ++ typing_text refused.typing ++ codes ": " ++ cause_text refused.cause
 
+-- the rule of valid shaders that is broken, and the item that breaks it
+abbrev pub invalid_text : ℕ → ℕ → List ℕ
+invalid_text rule item = codes "V" ++ decimal rule ++ codes " at item " ++ decimal item
+
 -- the line of a status, or nothing
 abbrev pub line_of : Status → List ℕ
 line_of status.Ok = []
@@ -115,8 +165,11 @@ line_of Usage = codes "usage: nir_opt RULES [--limit=N] [--option=NAME] [--remar
 line_of (ReadFault which) = codes "read failed: " ++ which_text which ++ codes "\n"
 line_of WriteFault = codes "write failed\n"
 line_of (RuleRefused refused) = codes "rules: " ++ refusal_text refused ++ codes "\n"
-line_of (NotBuilt which) = codes "not built: " ++ which_text which ++ codes "\n"
+line_of (ShaderSyntax fault) = codes "shader: " ++ fault_text fault ++ codes "\n"
+line_of (ShaderInvalid rule item) = codes "shader: " ++ invalid_text rule item ++ codes "\n"
+line_of (status.TooLong which) = codes "too long: " ++ which_text which ++ codes "\n"
 line_of OutOfMemory = codes "out of memory\n"
+line_of (NotBuilt which) = codes "not built: " ++ which_text which ++ codes "\n"
 
 -- a status whose line is one of a few
 abbrev pub has_plain_line : Status → Bool
@@ -125,5 +178,8 @@ has_plain_line Usage = true
 has_plain_line (ReadFault which) = true
 has_plain_line WriteFault = true
 has_plain_line (RuleRefused refused) = false
-has_plain_line (NotBuilt which) = true
+has_plain_line (ShaderSyntax fault) = false
+has_plain_line (ShaderInvalid rule item) = false
+has_plain_line (status.TooLong which) = true
 has_plain_line OutOfMemory = true
+has_plain_line (NotBuilt which) = true

@@ -1,51 +1,46 @@
--- The rule texts that are built so far: at most one rule on words of 8 bits, of one addition or subtraction, tried on all values.
-use Rattle.std.specs.Prelude.{ℕ, Bool, true, false, not, ◌&&◌, List, length, Option, Some, None, nat_le, nat_lt, is_none, if◌then◌else◌}
+-- The rule texts that are built so far: at most 16 rules on words of 8 bits, of one to three opcodes that a variable or a number replaces, each tried on all values.
+use Rattle.std.specs.Prelude.{ℕ, Bool, true, not, ◌&&◌, List, length, Option, Some, None, nat_le, is_none, if◌then◌else◌}
 use Rattle.std.specs.List.{list_all}
 use Rattle.nir_ops.specs.declared.op.Op.{Op}
-use Rattle.nir_ops.specs.declared.op.Op.TheVariants.{Iadd, Isub}
+use Rattle.rule_term.specs.Formed.{is_mov}
+use Rattle.rule_term.specs.Pieces.{Piece, VarPiece, LitPiece, AppPiece, ops_of, pieces}
 use Rattle.rule_term.specs.Rule.{Rule}
-use Rattle.rule_term.specs.Terms.{Terms, Nil, VarThen, LitThen, AppThen}
+use Rattle.rule_term.specs.Terms.{Terms}
 use Rattle.rule_read.specs.declared.entry.Entry.{Entry}
 use Rattle.rule_read.specs.RuleFile.{RuleFile}
 use Rattle.rule_read.specs.Rules.{read_file}
 use Rattle.rule_check.specs.Accepted.{is_tried, stands_at_eight}
+use Rattle.rewrite_pass.specs.Built.{is_leaf}
+use Rattle.nir_opt.specs.FirstForm.{is_first_op}
 
--- addition and subtraction
-abbrev pub is_sum_op : Op → Bool
-is_sum_op Iadd = true
-is_sum_op Isub = true
-is_sum_op _ = false
+abbrev pub is_from_to : ℕ → ℕ → ℕ → Bool
+is_from_to least most n = nat_le least n && nat_le n most
 
--- variables of which nothing is asked but a size, and numbers
-abbrev pub are_plain : Terms → Bool
-are_plain Nil = true
-are_plain (VarThen var constant size cond rest) = not constant && is_none cond && are_plain rest
-are_plain (LitThen value boolean rest) = are_plain rest
-are_plain (AppThen op size once args rest) = false
+-- an opcode of the shaders that are built, but no move
+abbrev pub is_rule_op : Op → Bool
+is_rule_op op = not (is_mov op) && is_first_op op
 
--- one addition or subtraction over them
-abbrev pub is_sum : Terms → Bool
-is_sum Nil = false
-is_sum (VarThen var constant size cond rest) = false
-is_sum (LitThen value boolean rest) = false
-is_sum (AppThen op size once args rest) = is_sum_op op && are_plain args
+-- a variable of which nothing is asked but a size, a number, or one of those opcodes
+abbrev pub is_first_piece : Piece → Bool
+is_first_piece (VarPiece var constant size cond) = not constant && is_none cond
+is_first_piece (LitPiece value boolean) = true
+is_first_piece (AppPiece op size once sources) = is_rule_op op
 
--- a variable alone
-abbrev pub is_variable : Terms → Bool
-is_variable (VarThen var constant size cond Nil) = true
-is_variable terms = false
+-- one to three opcodes over variables and numbers
+abbrev pub is_first_search : Terms → Bool
+is_first_search terms = list_all is_first_piece (pieces terms) && is_from_to 1 3 (length (ops_of terms))
 
--- of one or two variables
+-- a variable or a number replaces it, and it has one or two variables
 abbrev pub is_first_rule : Rule → Bool
-is_first_rule rule = is_sum rule.search && (is_variable rule.replace && nat_lt rule.vars 3)
+is_first_rule rule = is_first_search rule.search && (is_leaf rule.replace && is_from_to 1 2 rule.vars)
 
 abbrev pub is_first_entry : Entry → Bool
 is_first_entry entry = is_first_rule entry.rule
 
--- at most one rule, which stands at 8 bits and is followed by the one line that all values are tried
+-- at most 16 rules, each of which stands at 8 bits and is followed by the one line that all values are tried
 unfoldable pub are_first_rules : RuleFile → Bool
 are_first_rules file =
-    nat_lt (length file.entries) 2
+    nat_le (length file.entries) 16
     && ((list_all stands_at_eight file.entries && list_all is_tried file.entries)
     && list_all is_first_entry file.entries)
 

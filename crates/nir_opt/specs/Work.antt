@@ -1,20 +1,19 @@
 -- What a run did that ended with the whole text or a front of it: which rules and which shader it read, and how each step of its journal made the shader that it printed.
-use Rattle.std.specs.Prelude.{◌≡◌, ◌+◌, ◌⊎◌, ℕ, true, false, List, [], length, Some}
+use Rattle.std.specs.Prelude.{◌≡◌, ◌+◌, ◌⊎◌, ℕ, true, false, List, [], length, Some, Ok}
 use Rattle.nir_ir.specs.declared.journal.Step.{Step}
 use Rattle.nir_ir.specs.Shader.{Shader}
 use Rattle.nir_ir.specs.Shaped.{IsShaped}
 use Rattle.rule_term.specs.declared.when.Options.{Options}
 use Rattle.rule_read.specs.RuleFile.{RuleFile}
-use Rattle.rule_check.specs.declared.refused.Refused.{Refused}
 use Rattle.rule_check.specs.Accepted.{rules_of}
 use Rattle.nir_mean.specs.Same.{Same}
-use Rattle.nir_mean.specs.Valid.{Valid}
+use Rattle.nir_validate.specs.Valid.{Valid}
 use Rattle.nir_search.specs.Steps.{replay, is_settled}
 use Rattle.nir_search.specs.Weight.{weight_of}
 use Rattle.nir_opt.specs.declared.status.Report.{Report}
 use Rattle.nir_opt.specs.declared.status.Status.{Status}
-use Rattle.nir_opt.specs.declared.status.Status.TheVariants.{RuleRefused, OutOfMemory}
-use Rattle.nir_opt.specs.FirstForm.{first_shader}
+use Rattle.nir_opt.specs.declared.status.Status.TheVariants.{OutOfMemory}
+use Rattle.nir_opt.specs.Answers.{place_of, shader_answer}
 use Rattle.nir_opt.specs.FirstRules.{first_rules}
 
 -- no option is set
@@ -26,7 +25,7 @@ pub record IsWork (rules shader : List ℕ) (journal : List Step) (rewrites limi
   pub file : RuleFile
   pub read : Shader
   pub rules_read : first_rules rules ≡ Some file
-  pub shader_read : first_shader shader ≡ Some read
+  pub shader_read : shader_answer shader ≡ Ok read
   -- each step is the first match at its value, in its turn
   pub replayed : replay no_options (rules_of file.entries) read journal ≡ Some last
   -- nothing is left to do
@@ -42,8 +41,8 @@ pub record IsWork (rules shader : List ℕ) (journal : List Step) (rewrites limi
 
 -- a report of no work
 abbrev pub idle : Status → Report
-idle status = record { status = status; journal = []; rewrites = 0; limit = 0; stopped = false; place = 0 }
+idle status = record { status = status; journal = []; rewrites = 0; limit = 0; stopped = false; place = place_of status }
 
--- the report for a rule that is not accepted, unless there was no memory for its line
-abbrev pub IsRefusal : Refused → Report → Type 0
-IsRefusal rule report = (report ≡ idle (RuleRefused rule)) ⊎ (report ≡ idle OutOfMemory)
+-- the report of no work with a status whose line is built, unless there was no memory for it
+abbrev pub IsTold : Status → Report → Type 0
+IsTold status report = (report ≡ idle status) ⊎ (report ≡ idle OutOfMemory)

@@ -1,20 +1,20 @@
-//! Whether a text is of the form that is built.
+//! Whether the text of a valid shader is of the form that is built.
 
-ghost use Rattle.std.specs.Prelude.{◌≡◌, ◌≤◌, ◌++◌, true, [], ◌∷◌, length, map, sum_by, if◌then◌else◌, is_some, IfOk, OnOk, IfSome, bytes_eq, nat_eq, not};
-ghost use Rattle.std.specs.List.{list_all, list_any};
-ghost use Rattle.std.specs.Option.{option_copied, option_map, option_to_list};
+ghost use Rattle.std.specs.Prelude.{◌≡◌, ◌≤◌, true, [], ◌∷◌, sum_by, if◌then◌else◌, is_some, IfOk, IfSome, not};
+ghost use Rattle.std.specs.List.{list_all};
+ghost use Rattle.std.specs.Option.{option_copied, option_map};
 ghost use Rattle.nir_lex.specs.Kinds.{is_mark};
 ghost use Rattle.nir_lex.specs.Reading.{read_tokens};
 ghost use Rattle.nir_ir.specs.Nodes.{nodes_of};
 ghost use Rattle.nir_search.specs.Weight.{weight_of, instr_weight};
-ghost use Rattle.nir_opt.specs.FirstForm.{is_w8x1, is_first_op, is_among, src_fits, instr_fits, instrs_fit, block_fits, only_block, body_fits, is_first_form, has_no_dot, first_shader};
+ghost use Rattle.nir_validate.specs.Valid.{Valid};
+ghost use Rattle.nir_opt.specs.FirstForm.{is_w8x1, is_first_op, instr_fits, block_fits, only_block, body_fits, is_first_form, has_no_dot, is_of_first_form};
 
 use nir_host::OutOfMemory;
-use nir_ir::{Block, Instr, Kind, Node, Shader, Src, ValueId};
+use nir_ir::{Block, Instr, Kind, Node, Shader};
 use nir_lex::{LexFault, Token, tokens};
 use nir_ops::{Op, Width};
 use nir_search::count_instrs;
-use nir_text::{TextFault, read_shader};
 use std::alloc::Global;
 
 /// How many bytes a text may have.
@@ -32,10 +32,22 @@ fn is_w8x1(kind: Kind) -> bool
     }
 }
 
-fn is_first_op(op: Op) -> bool
+pub fn is_first_op(op: Op) -> bool
     ensures { result ≡ is_first_op op }
 {
-    matches!(op, Op::Iadd | Op::Isub | Op::Mov)
+    matches!(
+        op,
+        Op::Iadd
+            | Op::Isub
+            | Op::Imul
+            | Op::Ineg
+            | Op::Inot
+            | Op::Iand
+            | Op::Ior
+            | Op::Ixor
+            | Op::Umin
+            | Op::Mov
+    )
 }
 
 fn are_w8x1(kinds: &[Kind]) -> bool
@@ -49,123 +61,54 @@ fn are_w8x1(kinds: &[Kind]) -> bool
     true
 }
 
-fn is_among(seen: &[u32], value: ValueId) -> bool
-    ensures { result ≡ is_among seen.now value }
+/// Whether an instruction is one of those that are built.
+fn instr_fits(instr: &Instr) -> bool
+    ensures { result ≡ instr_fits instr.now }
 {
-    seen.contains(&value.0)
-}
-
-/// Whether a source is the first component, alone, of one of those values.
-fn src_fits(seen: &[u32], src: &Src) -> bool
-    ensures { result ≡ src_fits seen.now src.now }
-{
-    if src.swizzle.as_slice() != [0].as_slice() {
-        return false;
+    match instr {
+        Instr::Alu { op, kind, .. } => {
+            if !is_w8x1(*kind) {
+                return false;
+            }
+            is_first_op(*op)
+        }
+        Instr::Const { kind, .. } | Instr::Input { kind, .. } => is_w8x1(*kind),
+        Instr::Output { .. } => true,
+        Instr::Undef { .. } | Instr::LoadBuf { .. } | Instr::StoreBuf { .. } => false,
     }
-    is_among(seen, src.value)
 }
 
-fn are_among(seen: &[u32], srcs: &[Src]) -> bool
-    ensures { result ≡ list_all (src_fits seen.now) srcs.now }
+fn instrs_fit(instrs: &[Instr]) -> bool
+    ensures { result ≡ list_all instr_fits instrs.now }
 {
-    for src in srcs {
-        if !src_fits(seen, src) {
+    for instr in instrs {
+        if !instr_fits(instr) {
             return false;
         }
     }
     true
 }
 
-/// Whether an instruction may stand behind the definitions of those values, in a shader with so many
-/// inputs and outputs.
-fn instr_fits(inputs: usize, outputs: usize, seen: &[u32], instr: &Instr) -> bool
-    ensures { result ≡ instr_fits inputs outputs seen.now instr.now }
-{
-    match instr {
-        Instr::Alu { op, kind, srcs, .. } => {
-            if !is_w8x1(*kind) {
-                return false;
-            }
-            if !is_first_op(*op) {
-                return false;
-            }
-            are_among(seen, srcs.as_slice())
-        }
-        Instr::Const { kind, .. } => is_w8x1(*kind),
-        Instr::Input { kind, slot, .. } => {
-            if !is_w8x1(*kind) {
-                return false;
-            }
-            (*slot as usize) < inputs
-        }
-        Instr::Output { slot, src, .. } => {
-            if (*slot as usize) >= outputs {
-                return false;
-            }
-            is_among(seen, *src)
-        }
-        Instr::Undef { .. } | Instr::LoadBuf { .. } | Instr::StoreBuf { .. } => false,
-    }
-}
-
-/// Whether each name is defined on an earlier line, and each slot is declared. The values that were
-/// defined are searched for each use; there are at most 256 of them.
-fn instrs_fit(
-    alloc: Global,
-    inputs: usize,
-    outputs: usize,
-    instrs: &[Instr],
-) -> Result<bool, OutOfMemory>
-    ensures { IfOk result (λ fit. fit ≡ instrs_fit inputs outputs [] instrs.now) }
-{
-    let mut seen = Vec::new(alloc);
-    for instr in instrs {
-        if !instr_fits(inputs, outputs, seen.as_slice(), instr) {
-            return Ok(false);
-        }
-        note(&mut seen, instr.target())?;
-    }
-    Ok(true)
-}
-
-/// Puts the number of a value last.
-fn note(seen: &mut Vec<u32>, value: Option<ValueId>) -> Result<(), OutOfMemory>
-    ensures { OnOk result (seen.new.items ≡ seen.old.items ++ map (λ value. value.0) (option_to_list value)) }
-{
-    if let Some(value) = value {
-        match seen.push(value.0) {
-            Ok(()) => {}
-            Err(_failed) => return Err(OutOfMemory),
-        }
-    }
-    Ok(())
-}
-
 /// The weight of a block that fits.
-fn weight_of_block(
-    alloc: Global,
-    inputs: usize,
-    outputs: usize,
-    block: &Block,
-) -> Result<Option<u64>, OutOfMemory>
-    ensures fits { IfOk result (λ weight. is_some weight ≡ block_fits inputs outputs block.now) }
-    ensures weight { IfOk result (λ weight. IfSome weight (λ weight. weight ≡ sum_by instr_weight block.now.instrs)) }
-    ensures few { IfOk result (λ weight. IfSome weight (λ weight. weight ≤ 256)) }
+fn weight_of_block(block: &Block) -> Option<u64>
+    ensures fits { is_some result ≡ block_fits block.now }
+    ensures weight { IfSome result (λ weight. weight ≡ sum_by instr_weight block.now.instrs) }
+    ensures few { IfSome result (λ weight. weight ≤ 256) }
 {
     if !block.phis.is_empty() {
-        return Ok(None);
+        return None;
     }
     if block.jump.is_some() {
-        return Ok(None);
+        return None;
     }
     let census = count_instrs(block.instrs.as_slice());
     if census.values > MAX_VALUES {
-        return Ok(None);
+        return None;
     }
-    if !instrs_fit(alloc, inputs, outputs, block.instrs.as_slice())? {
-        return Ok(None);
+    if !instrs_fit(block.instrs.as_slice()) {
+        return None;
     }
-    Ok(Some(census.weight))
+    Some(census.weight)
 }
 
 /// The block of a body that is one block.
@@ -191,26 +134,24 @@ fn block_of(node: &Node) -> Option<&Block>
 
 /// The weight of a shader of one block of 8-bit code; None for every other shader.
 #[tactic(auto, unfolding(crate::specs::FirstForm::is_first_form))]
-fn weight_of_first_form(alloc: Global, shader: &Shader) -> Result<Option<u64>, OutOfMemory>
-    ensures fits { IfOk result (λ weight. is_some weight ≡ is_first_form shader.now) }
-    ensures weight { IfOk result (λ weight. IfSome weight (λ weight. weight ≡ weight_of shader.now)) }
-    ensures few { IfOk result (λ weight. IfSome weight (λ weight. weight ≤ 256)) }
+fn weight_of_first_form(shader: &Shader) -> Option<u64>
+    ensures fits { is_some result ≡ is_first_form shader.now }
+    ensures weight { IfSome result (λ weight. weight ≡ weight_of shader.now) }
+    ensures few { IfSome result (λ weight. weight ≤ 256) }
 {
     if shader.buffers != 0 {
-        return Ok(None);
+        return None;
     }
     if !are_w8x1(shader.inputs.as_slice()) {
-        return Ok(None);
+        return None;
     }
     if !are_w8x1(shader.outputs.as_slice()) {
-        return Ok(None);
+        return None;
     }
-    let inputs = shader.inputs.len();
-    let outputs = shader.outputs.len();
     let Some(block) = only_block(shader.body.as_slice()) else {
-        return Ok(None);
+        return None;
     };
-    weight_of_block(alloc, inputs, outputs, block)
+    weight_of_block(block)
 }
 
 /// Whether no token is a `.`, with which a swizzle would begin.
@@ -242,13 +183,16 @@ pub struct Built {
     pub weight: u64,
 }
 
-/// The shader of a text that is built; None for every other text.
-#[tactic(auto, unfolding(crate::specs::FirstForm::first_shader))]
-pub fn first_shader(alloc: Global, text: &[u8]) -> Result<Option<Built>, OutOfMemory>
-    ensures shader { IfOk result (λ built. option_map (λ b. b.shader) built ≡ first_shader text.now) }
+/// The valid shader of a text with its weight, where they are of the form that is built; None for every other text and valid
+/// shader.
+#[tactic(auto, unfolding(crate::specs::FirstForm::is_of_first_form))]
+pub fn built_of(alloc: Global, text: &[u8], shader: Shader) -> Result<Option<Built>, OutOfMemory>
+    requires valid { Valid shader }
+    ensures shader { IfOk result (λ built. option_map (λ b. b.shader) built ≡ (if is_of_first_form text.now shader then Some shader else None)) }
     ensures weight { IfOk result (λ built. IfSome built (λ b. b.weight ≡ weight_of b.shader)) }
     ensures few { IfOk result (λ built. IfSome built (λ b. b.weight ≤ 256)) }
     ensures form { IfOk result (λ built. IfSome built (λ b. is_first_form b.shader ≡ true)) }
+    ensures valid { IfOk result (λ built. IfSome built (λ b. Valid b.shader)) }
 {
     if text.len() > MAX_TEXT {
         return Ok(None);
@@ -256,19 +200,7 @@ pub fn first_shader(alloc: Global, text: &[u8]) -> Result<Option<Built>, OutOfMe
     if !has_no_dot(alloc, text)? {
         return Ok(None);
     }
-    match read_shader(alloc, text) {
-        Ok(shader) => Ok(with_weight(weight_of_first_form(alloc, &shader)?, shader)),
-        Err(TextFault::OutOfMemory) => Err(OutOfMemory),
-        Err(
-            TextFault::Lex(_)
-            | TextFault::Expected(_)
-            | TextFault::UnknownOp(_)
-            | TextFault::UnknownName(_)
-            | TextFault::Twice(_)
-            | TextFault::TooDeep(_)
-            | TextFault::TooMany(_),
-        ) => Ok(None),
-    }
+    Ok(with_weight(weight_of_first_form(&shader), shader))
 }
 
 /// A shader with its weight, where it has one.

@@ -6,10 +6,12 @@ ghost use Rattle.nir_opt.specs.Answers.{at_values, cause_text, has_plain_line, l
 use crate::status::Status;
 use itoa::Buffer;
 use nir_host::{Bytes, OutOfMemory, Which};
+use nir_mean::{fault_place, fault_what};
+use nir_text::TextFault;
 use rule_check::{Refused, RuleCause};
 use std::alloc::Global;
 
-/// The line of a status that names no rule, with its line feed; nothing for Ok.
+/// The line of a status that names neither a rule nor a place, with its line feed; nothing for Ok.
 pub fn plain_line(status: &Status) -> &'static [u8]
     requires { has_plain_line status.now ≡ true }
     ensures { result.now ≡ line_of status.now }
@@ -22,10 +24,12 @@ pub fn plain_line(status: &Status) -> &'static [u8]
         Status::ReadFault(Which::Rules) => b"read failed: rules\n",
         Status::ReadFault(Which::Shader) => b"read failed: shader\n",
         Status::WriteFault => b"write failed\n",
-        Status::RuleRefused(_) => b"",
+        Status::RuleRefused(_) | Status::ShaderSyntax(_) | Status::ShaderInvalid { .. } => b"",
+        Status::TooLong(Which::Rules) => b"too long: rules\n",
+        Status::TooLong(Which::Shader) => b"too long: shader\n",
+        Status::OutOfMemory => b"out of memory\n",
         Status::NotBuilt(Which::Rules) => b"not built: rules\n",
         Status::NotBuilt(Which::Shader) => b"not built: shader\n",
-        Status::OutOfMemory => b"out of memory\n",
     }
 }
 
@@ -102,6 +106,32 @@ pub fn refusal_line(alloc: Global, refused: &Refused) -> Result<Bytes, OutOfMemo
     push_typing(&mut out, refused.typing)?;
     push(&mut out, b": ")?;
     push_cause(&mut out, &refused.cause)?;
+    push(&mut out, b"\n")?;
+    Ok(Bytes::from_vec(out))
+}
+
+/// The line for a fault of the shader text, with its line feed.
+pub fn fault_line(alloc: Global, fault: &TextFault) -> Result<Bytes, OutOfMemory>
+    ensures { IfOk result (λ line. line ≡ line_of (Status.ShaderSyntax fault.now)) }
+{
+    let mut out = Vec::new(alloc);
+    push(&mut out, b"shader: byte ")?;
+    push_number(&mut out, fault_place(fault))?;
+    push(&mut out, b": ")?;
+    push(&mut out, fault_what(fault))?;
+    push(&mut out, b"\n")?;
+    Ok(Bytes::from_vec(out))
+}
+
+/// The line for the first rule that a shader breaks, with its line feed.
+pub fn invalid_line(alloc: Global, rule: u8, item: u64) -> Result<Bytes, OutOfMemory>
+    ensures { IfOk result (λ line. line ≡ line_of (Status.ShaderInvalid rule item)) }
+{
+    let mut out = Vec::new(alloc);
+    push(&mut out, b"shader: V")?;
+    push_number(&mut out, u64::from(rule))?;
+    push(&mut out, b" at item ")?;
+    push_number(&mut out, item)?;
     push(&mut out, b"\n")?;
     Ok(Bytes::from_vec(out))
 }

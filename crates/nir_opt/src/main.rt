@@ -1,22 +1,27 @@
-//! The optimiser of shader texts: `nir_opt RULES < SHADER`.
+//! The optimiser of shader texts, `nir_opt RULES < SHADER`, and their evaluator, `nir_opt eval --turns=N < SHADER`.
 #![tactic(auto)]
 
+#[cfg(test)]
+mod eval_tests;
 mod first_form;
 mod first_rules;
 mod lines;
 mod optimise;
+mod program;
 mod run;
 mod status;
 #[cfg(test)]
 mod tests;
 mod texts;
+#[cfg(test)]
+mod validity_tests;
 mod words;
 
 ghost use Rattle.std.specs.Prelude.{◌≡◌, ◌<◌};
 
 use nir_host::{Bytes, FileSource, Sink, StderrSink, StdinSource, StdoutSink};
 use nir_search::Steps;
-use run::run;
+use program::{program, rules_at};
 use std::marker::Brand;
 use std::process::ExitCode;
 use std::sync::ledger::{Blank, Ledger};
@@ -69,7 +74,7 @@ fn counted<L: Ledger>(rt: &HostRuntime, words: &[Bytes], blank: Blank) -> u8
     let mut out = StdoutSink::new(rt.stdout());
     let mut notes = StderrSink::new(rt.stderr());
     let mut steps = Steps::<L>::new(blank);
-    let report = run(
+    let ended = program(
         rt.alloc(),
         words,
         &mut rules,
@@ -78,13 +83,16 @@ fn counted<L: Ledger>(rt: &HostRuntime, words: &[Bytes], blank: Blank) -> u8
         &mut notes,
         &mut steps,
     );
-    report.status.number()
+    ended.number()
 }
 
-/// The first word as a path, or the empty path.
+/// The word RULES as a path, or the empty path where there is none.
 fn path_of(words: &[Bytes]) -> &str {
-    match words {
-        [] => "",
-        [first, ..] => str::from_utf8(first.as_slice()).unwrap_or(""),
+    match rules_at(words) {
+        Some(place) => match words.get(place) {
+            Some(word) => str::from_utf8(word.as_slice()).unwrap_or(""),
+            None => "",
+        },
+        None => "",
     }
 }

@@ -9,7 +9,7 @@ ghost use Rattle.rule_term.specs.Table.{AllHold};
 ghost use Rattle.rule_meaning.specs.StepSame.{AllFormed};
 ghost use Rattle.nir_ir.specs.Shaped.{IsShaped};
 ghost use Rattle.nir_mean.specs.Same.{Same};
-ghost use Rattle.nir_mean.specs.Valid.{Valid};
+ghost use Rattle.nir_validate.specs.Valid.{Valid};
 ghost use Rattle.nir_opt.specs.FirstForm.{is_first_form};
 
 use nir_host::OutOfMemory;
@@ -22,8 +22,8 @@ use std::sync::ledger::Ledger;
 
 /// Visits each rule of the table: its type says that it is formed, and the table's that it holds.
 fn all_hold(table: &Table)
-    ensures formed { AllFormed table.now }
-    ensures hold { AllHold table.now }
+    ensures formed { AllFormed table.now.rules }
+    ensures hold { AllHold table.now.rules }
 {
     for place in 0..table.len() {
         let rule = table.rule(place as u32);
@@ -49,11 +49,12 @@ pub fn optimise<L: Ledger>(
     limit: u64,
     steps: &mut Steps<L>,
 ) -> Result<Optimised, OutOfMemory>
-    requires built { list_all is_built table.now ≡ true }
+    requires built { list_all is_built table.now.rules ≡ true }
+    requires valid { Valid shader }
     requires form { is_first_form shader ≡ true }
     requires enough { weight_of shader < limit }
-    ensures replayed { IfOk result (λ done. replay options.now table.now shader done.journal ≡ Some done.shader) }
-    ensures settled { IfOk result (λ done. is_settled options.now table.now done.shader ≡ true) }
+    ensures replayed { IfOk result (λ done. replay options.now table.now.rules shader done.journal ≡ Some done.shader) }
+    ensures settled { IfOk result (λ done. is_settled options.now table.now.rules done.shader ≡ true) }
     ensures counted { IfOk result (λ done. done.rewrites ≡ length done.journal) }
     ensures fewer { IfOk result (λ done. weight_of done.shader + done.rewrites ≡ weight_of shader) }
     ensures shaped { IfOk result (λ done. IsShaped done.shader) }

@@ -1,26 +1,28 @@
 //! The top call: bytes in, bytes out.
 
-ghost use Rattle.std.specs.Prelude.{◌≡◌, ℕ, ◌+◌, ◌↔◌, ◌≢◌, ◌++◌, IsSome, List, [], Some, false, true};
+ghost use Rattle.std.specs.Prelude.{◌≡◌, ℕ, ◌+◌, ◌↔◌, ◌≢◌, ◌++◌, IfOk, IsOk, List, [], Some, false, true};
 ghost use Rattle.nir_host.specs.Faults.{Rose};
 ghost use Rattle.nir_host.specs.Told.{Gains};
 ghost use Rattle.nir_host.specs.Whole.{TakesFront};
 ghost use Rattle.nir_ir.specs.Shader.{Shader};
 ghost use Rattle.nir_print.specs.Text.{text_of};
-ghost use Rattle.nir_opt.specs.Answers.{AreAccepted, EndsWell, has_plain_line, is_of_rules, has_reading, RulesFit, ShaderFits, line_of};
-ghost use Rattle.nir_opt.specs.FirstForm.{first_shader};
+ghost use Rattle.nir_text.specs.declared.fault.TextFault.{TextFault};
+ghost use Rattle.nir_mean.specs.Faults.{is_of_text};
+ghost use Rattle.nir_opt.specs.Answers.{AreAccepted, EndsWell, has_plain_line, is_of_rules, has_reading, place_of, RulesFit, ShaderFits, line_of, shader_answer};
 ghost use Rattle.nir_opt.specs.FirstRules.{first_rules};
 ghost use Rattle.nir_opt.specs.Texts.{ReadsToEnd};
-ghost use Rattle.nir_opt.specs.Work.{IsRefusal, IsWork};
+ghost use Rattle.nir_opt.specs.Work.{IsTold, IsWork};
 
-use crate::lines::{plain_line, refusal_line};
+use crate::lines::{fault_line, invalid_line, plain_line, refusal_line};
 use crate::optimise::optimise;
 use crate::status::{Report, Status};
-use crate::texts::{Refusal, read_rules_text, read_shader_text};
+use crate::texts::{Refusal, ShaderRefusal, read_rules_text, read_shader_text};
 use crate::words::has_reading;
-use nir_host::{Bytes, Sink, Source, Which, write_all};
+use nir_host::{Bytes, OutOfMemory, Sink, Source, Which, write_all};
 use nir_ir::Journal;
 use nir_print::print_shader;
 use nir_search::Steps;
+use nir_text::TextFault;
 use rule_check::{CheckFault, Refused, check_file};
 use rule_term::{Names, Options};
 use std::alloc::Global;
@@ -33,9 +35,10 @@ const SPARE_REWRITES: u64 = 4_096;
 /// writing at the end.
 ///
 /// The words are RULES alone. The order is fixed: the words; the rules read to their end; the rule
-/// text; the rules checked; the shader read to its end; the shader text; the rewriting; the writing. Nothing goes to `out`
-/// before the text is whole, and want of memory may end the run at any point after the words. The line of the
-/// status goes to `notes`, whose faults change nothing. `steps` counts calls of the matcher.
+/// text; the rules checked; the shader read to its end; the shader text; whether the shader is valid; whether it is
+/// built; the rewriting; the writing. Nothing goes to `out` before the text is whole, and want of memory may end the run
+/// at any point after the words. The line of the status goes to `notes`, whose faults change nothing. `steps` counts
+/// calls of the matcher.
 pub fn run<R: Source, S: Source, K: Sink, N: Sink, L: Ledger>(
     alloc: Global,
     words: &[Bytes],
@@ -48,7 +51,9 @@ pub fn run<R: Source, S: Source, K: Sink, N: Sink, L: Ledger>(
     // Which status it is, as far as the bytes are told.
     ensures words { (result.status ≡ Status.Usage) ↔ (has_reading words.now ≡ false) }
     ensures rules_text { (text : List ℕ) → R.left rules.old ≡ Some text → RulesFit result.status (first_rules text) }
-    ensures shader_text { (text : List ℕ) → S.left shader.old ≡ Some text → ShaderFits result.status (first_shader text) }
+    ensures shader_text { (text : List ℕ) → S.left shader.old ≡ Some text → ShaderFits result.status (shader_answer text) }
+
+    ensures syntax { (fault : TextFault) → result.status ≡ Status.ShaderSyntax fault → is_of_text fault ≡ true }
 
     // A fault has its cause.
     ensures rules_fault { result.status ≡ Status.ReadFault Which.Rules → Rose (R.faults rules.old) (R.faults rules.new) }
@@ -58,7 +63,7 @@ pub fn run<R: Source, S: Source, K: Sink, N: Sink, L: Ledger>(
     // Valid input is not refused: memory alone may be wanting.
     ensures complete { has_reading words.now ≡ true → (rule_text shader_text : List ℕ) → R.left rules.old ≡ Some rule_text → S.left shader.old ≡ Some shader_text →
         (Rose (R.faults rules.old) (R.faults rules.new) → ⊥) → (Rose (S.faults shader.old) (S.faults shader.new) → ⊥) → (Rose (K.faults out.old) (K.faults out.new) → ⊥) →
-        AreAccepted (first_rules rule_text) → IsSome (first_shader shader_text) → EndsWell result.status }
+        AreAccepted (first_rules rule_text) → IsOk (shader_answer shader_text) → EndsWell result.status }
 
     // What was read.
     ensures nothing_read { result.status ≡ Status.Usage → (R.left rules.new ≡ R.left rules.old) × (S.left shader.new ≡ S.left shader.old) }
@@ -78,7 +83,8 @@ pub fn run<R: Source, S: Source, K: Sink, N: Sink, L: Ledger>(
 
     // What is reported of the work.
     ensures idle { result.status ≢ Status.Ok → result.status ≢ Status.WriteFault → (result.journal ≡ []) × (result.rewrites ≡ 0) × (result.limit ≡ 0) }
-    ensures stopped { (result.stopped ≡ false) × (result.place ≡ 0) }
+    ensures stopped { result.stopped ≡ false }
+    ensures place { result.place ≡ place_of result.status }
 {
     if !has_reading(words) {
         return ended(alloc, notes, Status::Usage);
@@ -96,9 +102,14 @@ pub fn run<R: Source, S: Source, K: Sink, N: Sink, L: Ledger>(
     };
     let built = match read_shader_text(alloc, shader) {
         Ok(built) => built,
-        Err(Refusal::ReadFault) => return ended(alloc, notes, Status::ReadFault(Which::Shader)),
-        Err(Refusal::NotBuilt) => return ended(alloc, notes, Status::NotBuilt(Which::Shader)),
-        Err(Refusal::OutOfMemory) => return ended(alloc, notes, Status::OutOfMemory),
+        Err(ShaderRefusal::ReadFault) => {
+            return ended(alloc, notes, Status::ReadFault(Which::Shader));
+        }
+        Err(ShaderRefusal::TooLong) => return ended(alloc, notes, Status::TooLong(Which::Shader)),
+        Err(ShaderRefusal::Syntax(fault)) => return misspelt(alloc, notes, fault),
+        Err(ShaderRefusal::Invalid { rule, item }) => return invalid(alloc, notes, rule, item),
+        Err(ShaderRefusal::NotBuilt) => return ended(alloc, notes, Status::NotBuilt(Which::Shader)),
+        Err(ShaderRefusal::OutOfMemory) => return ended(alloc, notes, Status::OutOfMemory),
     };
     let limit = built.weight + SPARE_REWRITES;
     let options = Options {
@@ -167,22 +178,59 @@ fn ended<N: Sink>(alloc: Global, notes: &mut N, status: Status) -> Report
     finished(notes, status, Journal::new(alloc), 0, 0)
 }
 
-/// The report of a run that found a rule which is not accepted, or had no memory for its line.
-fn refused<N: Sink>(alloc: Global, notes: &mut N, rule: Refused) -> Report
-    ensures report { IsRefusal rule result }
+/// The report of a run that did no work, with a status whose line was built, or had no memory for the line.
+fn told<N: Sink>(
+    alloc: Global,
+    notes: &mut N,
+    status: Status,
+    line: Result<Bytes, OutOfMemory>,
+) -> Report
+    requires line { IfOk line (λ line. line ≡ line_of status) }
+    ensures report { IsTold status result }
     ensures notes { (before : List ℕ) → N.taken notes.old ≡ Some before →
         (Rose (N.faults notes.old) (N.faults notes.new) → ⊥) → N.taken notes.new ≡ Some (before ++ line_of result.status) }
 {
-    let Ok(line) = refusal_line(alloc, &rule) else {
+    let Ok(line) = line else {
         return ended(alloc, notes, Status::OutOfMemory);
     };
     note(notes, line.as_slice());
+    let place = status.place();
     Report {
-        status: Status::RuleRefused(rule),
+        status,
         journal: Journal::new(alloc),
         rewrites: 0,
         limit: 0,
         stopped: false,
-        place: 0,
+        place,
     }
+}
+
+/// The report of a run that found a rule which is not accepted.
+fn refused<N: Sink>(alloc: Global, notes: &mut N, rule: Refused) -> Report
+    ensures report { IsTold (Status.RuleRefused rule) result }
+    ensures notes { (before : List ℕ) → N.taken notes.old ≡ Some before →
+        (Rose (N.faults notes.old) (N.faults notes.new) → ⊥) → N.taken notes.new ≡ Some (before ++ line_of result.status) }
+{
+    let line = refusal_line(alloc, &rule);
+    told(alloc, notes, Status::RuleRefused(rule), line)
+}
+
+/// The report of a run that found a fault of the shader text.
+fn misspelt<N: Sink>(alloc: Global, notes: &mut N, fault: TextFault) -> Report
+    ensures report { IsTold (Status.ShaderSyntax fault) result }
+    ensures notes { (before : List ℕ) → N.taken notes.old ≡ Some before →
+        (Rose (N.faults notes.old) (N.faults notes.new) → ⊥) → N.taken notes.new ≡ Some (before ++ line_of result.status) }
+{
+    let line = fault_line(alloc, &fault);
+    told(alloc, notes, Status::ShaderSyntax(fault), line)
+}
+
+/// The report of a run that found a shader which is not valid.
+fn invalid<N: Sink>(alloc: Global, notes: &mut N, rule: u8, item: u64) -> Report
+    ensures report { IsTold (Status.ShaderInvalid rule item) result }
+    ensures notes { (before : List ℕ) → N.taken notes.old ≡ Some before →
+        (Rose (N.faults notes.old) (N.faults notes.new) → ⊥) → N.taken notes.new ≡ Some (before ++ line_of result.status) }
+{
+    let line = invalid_line(alloc, rule, item);
+    told(alloc, notes, Status::ShaderInvalid { rule, item }, line)
 }

@@ -1,10 +1,12 @@
 //! How a run ends, and the report of it.
 
 ghost use Rattle.std.specs.Prelude.{◌≡◌};
-ghost use Rattle.nir_opt.specs.Answers.{number_of};
+ghost use Rattle.nir_opt.specs.Answers.{number_of, place_of};
 
 use nir_host::Which;
 use nir_ir::Journal;
+use nir_mean::fault_place;
+use nir_text::TextFault;
 use rule_check::Refused;
 
 /// How a run ended. The numbers, the causes and the lines are in `docs/COMMANDS.md`.
@@ -20,10 +22,16 @@ pub enum Status {
     WriteFault,
     /// The rule is not accepted; it is the first of its file that is not.
     RuleRefused(Refused),
-    /// That text is not of the form that is built.
-    NotBuilt(Which),
+    /// The shader text is not in the grammar: its first fault, which is never want of memory.
+    ShaderSyntax(TextFault),
+    /// The shader is not valid: the first rule that it breaks, and the item that breaks it, as `docs/SHADERS.md` counts them.
+    ShaderInvalid { rule: u8, item: u64 },
+    /// That source has more bytes than are read.
+    TooLong(Which),
     /// There was no memory.
     OutOfMemory,
+    /// That text is not of the form that is built; a shader is valid then.
+    NotBuilt(Which),
 }
 
 impl Status {
@@ -37,8 +45,29 @@ impl Status {
             Status::ReadFault(_) => 3,
             Status::WriteFault => 4,
             Status::RuleRefused(_) => 6,
+            Status::ShaderSyntax(_) => 7,
+            Status::ShaderInvalid { .. } => 8,
+            Status::TooLong(_) => 9,
             Status::OutOfMemory => 10,
             Status::NotBuilt(_) => 12,
+        }
+    }
+
+    /// The place of a syntax fault, in bytes from the start of its text; 0 for every other status.
+    pub fn place(&self) -> u64
+        ensures { result ≡ place_of self.now }
+    {
+        match self {
+            Status::ShaderSyntax(fault) => fault_place(fault),
+            Status::Ok
+            | Status::Usage
+            | Status::ReadFault(_)
+            | Status::WriteFault
+            | Status::RuleRefused(_)
+            | Status::ShaderInvalid { .. }
+            | Status::TooLong(_)
+            | Status::OutOfMemory
+            | Status::NotBuilt(_) => 0,
         }
     }
 }

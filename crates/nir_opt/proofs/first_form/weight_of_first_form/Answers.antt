@@ -1,5 +1,5 @@
 use Rattle.std.proofs.Common.{◌≡◌, ℕ, List, Some, sym, ap, ◌∙◌, subst}
-use Rattle.std.specs.Prelude.{IfOk, IfSome}
+use Rattle.std.specs.Prelude.{IfSome}
 use Rattle.std.specs.Option.{option_copied}
 use Rattle.nir_ir.specs.declared.node.Node.{Node}
 use Rattle.nir_ir.specs.Nodes.{nodes_of}
@@ -14,4 +14,4 @@ returns-clause-weight c =
     let s = c.args.shader.now in
     let e : Some b ≡ only_block s.body =
     ap option_copied (sym c.in-Some.is) ∙ c.only_block.ensures ∙ ap (λ (l : List Node). only_block (nodes_of l)) c.as_slice-3.ensures ∙ ap (λ (w : Shader). only_block w.body) c.shader.view_is in
-    subst (λ (n : ℕ). IfOk c.weight_of_block.result (λ weight. IfSome weight (λ w. w ≡ n))) (weight-one_block s b e) c.weight_of_block.ensures.weight
+    subst (λ (n : ℕ). IfSome c.weight_of_block.result (λ w. w ≡ n)) (weight-one_block s b e) c.weight_of_block.ensures.weight

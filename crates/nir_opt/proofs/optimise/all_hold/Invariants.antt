@@ -5,4 +5,4 @@ use Rattle.rule_meaning.specs.StepSame.{AllFormed}
 use Rattle.nir_opt.proofs.optimise.all_hold.Given as goal
 
 abbrev pub invariant-loop-place : goal.invariant-loop-place
-invariant-loop-place l = AllFormed (take l.place l.table) × AllHold (take l.place l.table)
+invariant-loop-place l = AllFormed (take l.place l.table.rules) × AllHold (take l.place l.table.rules)

@@ -6,7 +6,7 @@ use Rattle.nir_opt.proofs.texts.read_rules_text.Goals as goal
 pub returns-in-Err-TooLong-clause-text : goal.returns-in-Err-TooLong-clause-text
 returns-in-Err-TooLong-clause-text g c = λ text told.
     let r = c.in-Err-TooLong.ensures.told text told in
-    first_rules-long text (longer text r.taken r.rest 67108864 r.parts (r.too_long.0 (cc)) (omega arith))
+    first_rules-long text (omega (arith, longer text r.taken r.rest 67108864 r.parts (r.too_long.0 (cc))))
 
 pub returns-in-Ok-Some-clause-text : goal.returns-in-Ok-Some-clause-text
 returns-in-Ok-Some-clause-text g c = λ text told.

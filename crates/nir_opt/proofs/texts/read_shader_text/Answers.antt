@@ -1,26 +1,9 @@
-use Rattle.std.proofs.Common.{List, ℕ, Some, sym, ap, ◌∙◌, arith}
-use Rattle.std.specs.Option.{option_map}
-use Rattle.nir_opt.specs.declared.first_form.Built.{Built}
-use Rattle.nir_opt.specs.FirstForm.{first_shader}
-use Rattle.nir_opt.proofs.Long.{first_shader-long, longer}
+use Rattle.std.proofs.Common.{subst}
+use Rattle.std.specs.Prelude.{Err}
+use Rattle.nir_mean.specs.ShaderText.{AreRead}
+use Rattle.nir_opt.proofs.Long.{answer_long}
 use Rattle.nir_opt.proofs.texts.read_shader_text.Goals as goal
 
 pub returns-in-Err-TooLong-clause-text : goal.returns-in-Err-TooLong-clause-text
 returns-in-Err-TooLong-clause-text g c = λ text told.
-    let r = c.in-Err-TooLong.ensures.told text told in
-    first_shader-long text (longer text r.taken r.rest 4194304 r.parts (r.too_long.0 (cc)) (omega arith))
-
-pub returns-in-Ok-Some-clause-text : goal.returns-in-Ok-Some-clause-text
-returns-in-Ok-Some-clause-text g c = λ text told.
-    let r = c.in-Ok.ensures.told text told in
-    ap first_shader (sym r.all ∙ sym c.as_slice.ensures) ∙ sym c.in-Ok-Some.ensures.shader ∙ ap (option_map (λ (b : Built). b.shader)) c.in-Ok-Some.field-0-is
-
-pub returns-in-Ok-Some-clause-end : goal.returns-in-Ok-Some-clause-end
-returns-in-Ok-Some-clause-end g c = λ text told.
-    let r = c.in-Ok.ensures.told text told in
-    r.now_left ∙ ap (λ (rest : List ℕ). Some rest) r.spent
-
-pub returns-in-Ok-None-clause-text : goal.returns-in-Ok-None-clause-text
-returns-in-Ok-None-clause-text g c = λ text told.
-    let r = c.in-Ok.ensures.told text told in
-    ap first_shader (sym r.all ∙ sym c.as_slice.ensures) ∙ sym c.in-Ok-None.ensures.shader ∙ ap (option_map (λ (b : Built). b.shader)) c.in-Ok-None.field-0-is
+    answer_long text (subst (λ fault. AreRead (Err fault) text) c.in-Err-TooLong.field-0-is (c.in-Err-TooLong.ensures.told text told))

@@ -1,0 +1,123 @@
+-- The program by its first word: `eval` runs a shader, every other list of words optimises one. What each call promises, as one fact.
+use Rattle.std.specs.Prelude.{◌≡◌, ◌↔◌, ◌≢◌, ℕ, Bool, true, false, ◌++◌, List, [], ◌∷◌, Option, Some, None, IsOk, nat_eq, codes, drop}
+use Rattle.std.specs.Str.{bytes_eq}
+use Rattle.nir_host.specs.declared.fault.Which.TheVariants as which
+use Rattle.nir_host.specs.Faults.{Rose}
+use Rattle.nir_host.specs.Told.{Gains}
+use Rattle.nir_host.specs.Whole.{TakesFront}
+use Rattle.nir_ir.specs.Shader.{Shader}
+use Rattle.nir_print.specs.Text.{text_of}
+use Rattle.nir_text.specs.declared.fault.TextFault.{TextFault}
+use Rattle.nir_mean.specs.declared.status.Status as mean
+use Rattle.nir_mean.specs.declared.status.Status.TheVariants as eval
+use Rattle.nir_mean.specs.declared.words.EvalWords.{EvalWords}
+use Rattle.nir_mean.specs.EvalAnswers as answers
+use Rattle.nir_mean.specs.EvalWords.{eval_words}
+use Rattle.nir_mean.specs.Faults.{is_of_text}
+use Rattle.nir_mean.specs.Outcome.{outcome}
+use Rattle.nir_mean.specs.OutcomeText.{outcome_text}
+use Rattle.nir_mean.specs.ShaderText.{Sound, answer_of, ReadsToEnd}
+use Rattle.nir_opt.specs.declared.program.Ended.{Ended}
+use Rattle.nir_opt.specs.declared.program.Ended.TheVariants.{Run, Eval}
+use Rattle.nir_opt.specs.declared.status.Report.{Report}
+use Rattle.nir_opt.specs.declared.status.Status.TheVariants as status
+use Rattle.nir_opt.specs.Answers.{AreAccepted, EndsWell, is_of_rules, has_reading, number_of, place_of, RulesFit, ShaderFits, line_of, shader_answer}
+use Rattle.nir_opt.specs.FirstRules.{first_rules}
+use Rattle.nir_opt.specs.Work.{IsWork}
+
+-- a source before a call and after it: the bytes that it has left, where it tells them, and its count of faults
+pub record Reading : Type 0 where
+  pub left_before : Option (List ℕ)
+  pub left_after : Option (List ℕ)
+  pub faults_before : ℕ
+  pub faults_after : ℕ
+
+-- a sink before a call and after it: the bytes that it has taken, where it tells them, and its count of faults
+pub record Writing : Type 0 where
+  pub taken_before : Option (List ℕ)
+  pub taken_after : Option (List ℕ)
+  pub faults_before : ℕ
+  pub faults_after : ℕ
+
+-- a fault of it was counted
+abbrev pub ReadFaults : Reading → Type 0
+ReadFaults source = Rose source.faults_before source.faults_after
+
+abbrev pub WriteFaults : Writing → Type 0
+WriteFaults sink = Rose sink.faults_before sink.faults_after
+
+-- the clauses of `run`
+pub record Ran (given_words : List (List ℕ)) (rules shader : Reading) (out lines : Writing) (report : Report) : Type 0 where
+  pub words : (report.status ≡ status.Usage) ↔ (has_reading given_words ≡ false)
+  pub rules_text : (text : List ℕ) → rules.left_before ≡ Some text → RulesFit report.status (first_rules text)
+  pub shader_text : (text : List ℕ) → shader.left_before ≡ Some text → ShaderFits report.status (shader_answer text)
+  pub syntax : (fault : TextFault) → report.status ≡ status.ShaderSyntax fault → is_of_text fault ≡ true
+  pub rules_fault : report.status ≡ status.ReadFault which.Rules → ReadFaults rules
+  pub shader_fault : report.status ≡ status.ReadFault which.Shader → ReadFaults shader
+  pub write_fault : report.status ≡ status.WriteFault → WriteFaults out
+  pub complete : has_reading given_words ≡ true → (rule_text shader_text : List ℕ) → rules.left_before ≡ Some rule_text → shader.left_before ≡ Some shader_text
+      → (ReadFaults rules → ⊥) → (ReadFaults shader → ⊥) → (WriteFaults out → ⊥)
+      → AreAccepted (first_rules rule_text) → IsOk (shader_answer shader_text) → EndsWell report.status
+  pub nothing_read : report.status ≡ status.Usage → (rules.left_after ≡ rules.left_before) × (shader.left_after ≡ shader.left_before)
+  pub shader_unread : is_of_rules report.status ≡ true → shader.left_after ≡ shader.left_before
+  pub rules_end : report.status ≡ status.Ok → ReadsToEnd rules.left_before rules.left_after
+  pub shader_end : report.status ≡ status.Ok → ReadsToEnd shader.left_before shader.left_after
+  pub untouched : report.status ≢ status.Ok → report.status ≢ status.WriteFault → out.taken_after ≡ out.taken_before
+  pub printed : report.status ≡ status.Ok → (rule_text shader_text : List ℕ) → rules.left_before ≡ Some rule_text → shader.left_before ≡ Some shader_text
+      → (last : Shader) × IsWork rule_text shader_text report.journal report.rewrites report.limit last × Gains out.taken_before out.taken_after (text_of last)
+  pub prefix : report.status ≡ status.WriteFault → (rule_text shader_text : List ℕ) → rules.left_before ≡ Some rule_text → shader.left_before ≡ Some shader_text
+      → (before : List ℕ) → out.taken_before ≡ Some before
+      → (last : Shader) × IsWork rule_text shader_text report.journal report.rewrites report.limit last × TakesFront before out.taken_after (text_of last)
+  pub notes : (before : List ℕ) → lines.taken_before ≡ Some before → (WriteFaults lines → ⊥) → lines.taken_after ≡ Some (before ++ line_of report.status)
+  pub idle : report.status ≢ status.Ok → report.status ≢ status.WriteFault → (report.journal ≡ []) × (report.rewrites ≡ 0) × (report.limit ≡ 0)
+  pub stopped : report.stopped ≡ false
+  pub place : report.place ≡ place_of report.status
+
+-- the clauses of `run_shader`
+pub record RanShader (given_words : List (List ℕ)) (shader : Reading) (out lines : Writing) (ending : mean.Status) : Type 0 where
+  pub words : (ending ≡ eval.Usage) ↔ (eval_words given_words ≡ None)
+  pub says : (given : EvalWords) → eval_words given_words ≡ Some given → (text : List ℕ) → shader.left_before ≡ Some text → answers.Says ending given (answer_of text)
+  pub syntax : (fault : TextFault) → ending ≡ eval.ShaderSyntax fault → is_of_text fault ≡ true
+  pub rules_fault : ending ≢ eval.ReadFault which.Rules
+  pub shader_fault : ending ≡ eval.ReadFault which.Shader → ReadFaults shader
+  pub write_fault : ending ≡ eval.WriteFault → WriteFaults out
+  pub complete : (given : EvalWords) → eval_words given_words ≡ Some given → (text : List ℕ) → shader.left_before ≡ Some text
+      → (ReadFaults shader → ⊥) → (WriteFaults out → ⊥) → (s : Shader) → answers.IsGiven given (answer_of text) true s → answers.EndsWell ending
+  pub nothing_read : ending ≡ eval.Usage → shader.left_after ≡ shader.left_before
+  pub end : ending ≡ eval.Ok → ReadsToEnd shader.left_before shader.left_after
+  pub untouched : ending ≢ eval.Ok → ending ≢ eval.WriteFault → out.taken_after ≡ out.taken_before
+  pub told : ending ≡ eval.Ok → (given : EvalWords) → eval_words given_words ≡ Some given → (text : List ℕ) → shader.left_before ≡ Some text
+      → (s : Shader) → answer_of text ≡ Sound s → Gains out.taken_before out.taken_after (outcome_text (outcome s given.inputs given.buffers given.turns))
+  pub prefix : ending ≡ eval.WriteFault → (given : EvalWords) → eval_words given_words ≡ Some given → (text : List ℕ) → shader.left_before ≡ Some text
+      → (s : Shader) → answer_of text ≡ Sound s → (before : List ℕ) → out.taken_before ≡ Some before
+      → TakesFront before out.taken_after (outcome_text (outcome s given.inputs given.buffers given.turns))
+  pub notes : (before : List ℕ) → lines.taken_before ≡ Some before → (WriteFaults lines → ⊥) → lines.taken_after ≡ Some (before ++ answers.line_of ending)
+
+-- the first word is `eval`
+abbrev pub picks_eval : List (List ℕ) → Bool
+picks_eval [] = false
+picks_eval (first ∷ others) = bytes_eq first (codes "eval")
+
+-- the call was `run` on all words, and it kept its promises
+abbrev pub EndsAsRun : List (List ℕ) → Reading → Reading → Writing → Writing → Ended → Type 0
+EndsAsRun words rules shader out notes (Run report) = Ran words rules shader out notes report
+EndsAsRun words rules shader out notes (Eval ending) = ⊥
+
+-- the call was `run_shader` on the words behind the first, and it kept its promises; the rules were not read
+abbrev pub EndsAsEval : List (List ℕ) → Reading → Reading → Writing → Writing → Ended → Type 0
+EndsAsEval words rules shader out notes (Run report) = ⊥
+EndsAsEval words rules shader out notes (Eval ending) = RanShader (drop 1 words) shader out notes ending × (rules.left_after ≡ rules.left_before)
+
+-- the number with which the program ends
+abbrev pub ended_number : Ended → ℕ
+ended_number (Run report) = number_of report.status
+ended_number (Eval ending) = answers.number_of ending
+
+-- the place of the word RULES: the first, unless that picks a command without rules
+abbrev pub rules_at : List (List ℕ) → Option ℕ
+rules_at [] = None
+rules_at (first ∷ others) = place_unless (bytes_eq first (codes "eval"))
+  where
+    place_unless : Bool → Option ℕ
+    place_unless true = None
+    place_unless false = Some 0
