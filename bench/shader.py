@@ -1,0 +1,220 @@
+#!/usr/bin/env python3
+"""Times the reader, the printer and the validator of shader texts: bench/shader.py [RUNS]
+
+Builds shader.rt.txt with rt in a temporary folder, runs it on texts that are made here, RUNS times each (25 if left out), and
+prints a table of the least processor times, each beside that of a text of a quarter of the size. The status is 1 where a
+time is past its limit or a printed text is not the text that was read, and 2 where the program cannot be built or run.
+It takes some minutes where the crates have not been proved on this machine before.
+"""
+import os
+import shutil
+import subprocess
+import sys
+import tempfile
+
+HERE = os.path.dirname(os.path.realpath(__file__))
+ROOT = os.path.dirname(HERE)
+MANY_VALUES = 16_384
+MANY_BYTES = 4_194_304
+DEPTH = 32
+
+
+def stop(why):
+    print(f"{why}\nshader.py: nothing was timed", file=sys.stderr)
+    sys.exit(2)
+
+
+def crates_below(name, lines):
+    """The crates of this repository that a crate stands on, and the crate itself."""
+    found = {name}
+    for low in lines[name].split():
+        if low in lines:
+            found |= crates_below(low, lines)
+    return found
+
+
+def copy_checkout(folder):
+    """Copies the crates that are timed and what they stand on, with what is built of them, so that little is proved anew."""
+    lines = {}
+    with open(f"{ROOT}/crates.txt", encoding="utf-8") as listed:
+        for line in listed:
+            name, colon, below = line.partition(":")
+            if colon and not line.startswith("#"):
+                lines[name.strip()] = below
+    needed = crates_below("nir_print", lines) | crates_below("nir_validate", lines)
+    for name in needed:
+        shutil.copytree(
+            f"{ROOT}/crates/{name}",
+            f"{folder}/crates/{name}",
+            ignore=shutil.ignore_patterns("must-fail", "*_tests", "*_tests.o"),
+        )
+    with open(f"{folder}/crates.txt", "w", encoding="utf-8") as out:
+        for name in lines:
+            if name in needed:
+                out.write(f"{name}:{lines[name].rstrip()}\n")
+        out.write("bench_shader: nir_validate nir_print nir_text nir_ir nir_host\n")
+    shutil.copy(f"{ROOT}/HANDLES", folder)
+
+
+def build(folder):
+    """Proves and builds the program, and answers its path."""
+    copy_checkout(folder)
+    crate = f"{folder}/crates/bench_shader"
+    os.makedirs(f"{crate}/src")
+    # A .rt file outside crates/ would be refused by the gate, hence the other name in the checkout.
+    shutil.copy(f"{HERE}/shader.rt.txt", f"{crate}/src/main.rt")
+    with open(f"{folder}/build.log", "w", encoding="utf-8") as log:
+        subprocess.run(
+            ["rt", "run", "--jobs", "1", "--backend", "llvm", "--", "take"],
+            cwd=crate,
+            stdin=subprocess.DEVNULL,
+            stdout=log,
+            stderr=subprocess.STDOUT,
+        )
+    program = f"{crate}/out/bench_shader"
+    if not os.path.exists(program):
+        with open(f"{folder}/build.log", encoding="utf-8") as log:
+            stop(f"{log.read()}rt did not build the program")
+    return program
+
+
+def one_block(lines):
+    return "\n".join(["shader", "inputs [w32x1]", "outputs [w32x1]", "buffers 0", "{", "  block b0 {", *(f"    {line}" for line in lines), "  }", "}", ""])
+
+
+def sums(count):
+    """One block of so many values, each the sum of the two before it."""
+    lines = ["%0 = input w32x1 @0", "%1 = const w32x1 (1)"]
+    lines += [f"%{at} = iadd w32x1 %{at - 1}, %{at - 2}" for at in range(2, count)]
+    return one_block([*lines, f"output @0, %{count - 1}"])
+
+
+def outputs(size):
+    """One block of one value and as many outputs as give a text of almost so many bytes."""
+    empty = len(one_block(["%0 = input w32x1 @0"]))
+    line = "output @0, %0"
+    return one_block(["%0 = input w32x1 @0", *[line] * ((size - empty) // (len(line) + 5))])
+
+
+class Nested:
+    """Ifs and loops inside one another, in each block an addition."""
+
+    def __init__(self, count):
+        self.count = count
+        self.lines = []
+        self.values = 0
+        self.blocks = 0
+
+    def put(self, depth, text):
+        self.lines.append("  " * depth + text)
+
+    def value(self, depth, text):
+        self.put(depth, f"%{self.values} = {text}")
+        self.values += 1
+        return self.values - 1
+
+    def block(self, depth, last, jump=""):
+        self.put(depth, f"block b{self.blocks} {{")
+        self.blocks += 1
+        if self.values < self.count:
+            last = self.value(depth + 1, f"iadd w32x1 %{last}, %0")
+        if jump:
+            self.put(depth + 1, jump)
+        self.put(depth, "}")
+        return last
+
+    def nest(self, depth, level, last):
+        """A list of a block, an if or a loop, and a block."""
+        last = self.block(depth, last)
+        if level > 0 and self.values < self.count:
+            if level % 2:
+                self.put(depth, "if %1 {")
+                self.nest(depth + 1, level - 1, last)
+                self.put(depth, "} else {")
+                self.block(depth + 1, last)
+                self.put(depth, "}")
+            else:
+                self.put(depth, "loop {")
+                last = self.nest(depth + 1, level - 1, last)
+                self.put(depth + 1, "if %1 {")
+                self.block(depth + 2, last, "break")
+                self.put(depth + 1, "} else {")
+                self.block(depth + 2, last)
+                self.put(depth + 1, "}")
+                self.block(depth + 1, last)
+                self.put(depth, "}")
+            last = self.block(depth, last)
+        return last
+
+    def text(self):
+        self.put(1, f"block b{self.blocks} {{")
+        self.blocks += 1
+        first = self.value(2, "input w32x1 @0")
+        self.value(2, "const w1x1 (1)")
+        self.put(1, "}")
+        while self.values < self.count:
+            self.put(1, "loop {")
+            last = self.nest(2, DEPTH - 2, first)
+            self.put(2, "if %1 {")
+            self.block(3, last, "break")
+            self.put(2, "} else {")
+            self.block(3, last)
+            self.put(2, "}")
+            self.block(2, last)
+            self.put(1, "}")
+            self.block(1, first)
+        return "\n".join(["shader", "inputs [w32x1]", "outputs [w32x1]", "buffers 0", "{", *self.lines, "}", ""])
+
+
+def run_once(words, text):
+    """What a program prints, and its processor time in milliseconds."""
+    with tempfile.TemporaryFile() as given, tempfile.TemporaryFile() as printed:
+        given.write(text)
+        given.seek(0)
+        process = subprocess.Popen(words, stdin=given, stdout=printed)
+        _, status, usage = os.wait4(process.pid, 0)
+        process.returncode = os.waitstatus_to_exitcode(status)
+        if process.returncode != 0:
+            stop(f"{' '.join(words)} ended with status {process.returncode}")
+        printed.seek(0)
+        return printed.read(), (usage.ru_utime + usage.ru_stime) * 1000
+
+
+def least_time(program, part, text, runs):
+    printed, times = b"", []
+    for _ in range(runs):
+        printed, time = run_once([program, part], text)
+        times.append(time)
+    if part == "print" and printed != text:
+        print("the printed text is not the text that was read")
+        sys.exit(1)
+    return min(times)
+
+
+def main():
+    runs = int(sys.argv[1]) if len(sys.argv) > 1 else 25
+    cases = (
+        ("read and print, one block of values", "print", sums, MANY_VALUES, 50),
+        ("read and print, text of 4 MiB", "print", outputs, MANY_BYTES, 200),
+        ("validate, ifs and loops 32 deep", "validate", lambda count: Nested(count).text(), MANY_VALUES, 50),
+    )
+    failed = False
+    with tempfile.TemporaryDirectory(prefix="bench_shader_") as folder:
+        program = build(folder)
+        print("Milliseconds of processor time, the least of the runs. Validating is told without the reading before it.")
+        print()
+        print(f"{'part':38}  {'a quarter':>9}  {'whole':>9}  {'growth':>6}  {'limit':>6}")
+        for name, part, make, size, limit in cases:
+            times = []
+            for text in (make(size // 4).encode(), make(size).encode()):
+                time = least_time(program, part, text, runs)
+                if part == "validate":
+                    time -= least_time(program, "read", text, runs)
+                times.append(time)
+            print(f"{name:38}  {times[0]:9.1f}  {times[1]:9.1f}  {times[1] / max(times[0], 0.1):6.1f}  {limit:6}", flush=True)
+            failed = failed or times[1] > limit
+    sys.exit(1 if failed else 0)
+
+
+if __name__ == "__main__":
+    main()
