@@ -7,15 +7,14 @@ where eval at an opcode written out takes more than 3 times the native time or c
 cannot be built or run. It takes about a minute, and some minutes where op_eval has not been proved on this machine before.
 """
 import os
-import shutil
 import subprocess
 import sys
 import tempfile
 
+import checkout
+
 OPCODES = ("iadd", "imul", "idiv", "urol", "bit_count")
 LIMIT = 3.0
-HERE = os.path.dirname(os.path.realpath(__file__))
-ROOT = os.path.dirname(HERE)
 # The processor that Rattle builds for. It counts bits in one instruction, which plain rustc -O may not use.
 CPU = "x86-64-v2"
 
@@ -25,62 +24,18 @@ def stop(why):
     sys.exit(2)
 
 
-def crates_below(name, lines):
-    """The crates of this repository that a crate stands on, and the crate itself."""
-    found = {name}
-    for low in lines[name].split():
-        if low in lines:
-            found |= crates_below(low, lines)
-    return found
-
-
-def copy_checkout(folder):
-    """Copies op_eval and what it stands on, with what is built of them, so that little is proved anew."""
-    lines = {}
-    with open(f"{ROOT}/crates.txt", encoding="utf-8") as listed:
-        for line in listed:
-            name, colon, below = line.partition(":")
-            if colon and not line.startswith("#"):
-                lines[name.strip()] = below
-    needed = crates_below("op_eval", lines)
-    for name in needed:
-        shutil.copytree(
-            f"{ROOT}/crates/{name}",
-            f"{folder}/crates/{name}",
-            ignore=shutil.ignore_patterns("must-fail", "*_tests", "*_tests.o"),
-        )
-    with open(f"{folder}/crates.txt", "w", encoding="utf-8") as out:
-        for name in lines:
-            if name in needed:
-                out.write(f"{name}:{lines[name].rstrip()}\n")
-        out.write("bench_eval: op_eval nir_ops\n")
-    shutil.copy(f"{ROOT}/HANDLES", folder)
-
-
 def build_eval(folder):
     """Proves and builds the program over `eval`, and answers its path."""
-    copy_checkout(folder)
-    crate = f"{folder}/crates/bench_eval"
-    os.makedirs(f"{crate}/src")
-    # A .rt file outside crates/ would be refused by the gate, hence the other name in the checkout.
-    shutil.copy(f"{HERE}/eval.rt.txt", f"{crate}/src/main.rt")
-    with open(f"{folder}/build.log", "w", encoding="utf-8") as log:
-        done = subprocess.run(
-            ["rt", "run", "--jobs", "1", "--backend", "llvm", "--", "fixed", "iadd"],
-            cwd=crate,
-            stdin=subprocess.DEVNULL,
-            stdout=log,
-            stderr=subprocess.STDOUT,
-        )
-    if done.returncode != 0:
-        with open(f"{folder}/build.log", encoding="utf-8") as log:
-            stop(f"{log.read()}rt did not build the program")
-    return f"{crate}/out/bench_eval"
+    checkout.copy_crates(folder, ("op_eval",), "bench_eval: op_eval nir_ops")
+    program, status, written = checkout.build(folder, "bench_eval", "eval.rt.txt", ("fixed", "iadd"))
+    if status != 0:
+        stop(f"{written}rt did not build the program")
+    return program
 
 
 def build_native(folder, name, flags):
     program = f"{folder}/{name}"
-    if subprocess.run(["rustc", "-O", *flags, "-o", program, f"{HERE}/eval.rs"]).returncode != 0:
+    if subprocess.run(["rustc", "-O", *flags, "-o", program, f"{checkout.HERE}/eval.rs"]).returncode != 0:
         stop("rustc did not build the program")
     return program
 

@@ -7,13 +7,12 @@ time is past its limit or a printed text is not the text that was read, and 2 wh
 It takes some minutes where the crates have not been proved on this machine before.
 """
 import os
-import shutil
 import subprocess
 import sys
 import tempfile
 
-HERE = os.path.dirname(os.path.realpath(__file__))
-ROOT = os.path.dirname(HERE)
+import checkout
+
 MANY_VALUES = 16_384
 MANY_BYTES = 4_194_304
 DEPTH = 32
@@ -24,57 +23,12 @@ def stop(why):
     sys.exit(2)
 
 
-def crates_below(name, lines):
-    """The crates of this repository that a crate stands on, and the crate itself."""
-    found = {name}
-    for low in lines[name].split():
-        if low in lines:
-            found |= crates_below(low, lines)
-    return found
-
-
-def copy_checkout(folder):
-    """Copies the crates that are timed and what they stand on, with what is built of them, so that little is proved anew."""
-    lines = {}
-    with open(f"{ROOT}/crates.txt", encoding="utf-8") as listed:
-        for line in listed:
-            name, colon, below = line.partition(":")
-            if colon and not line.startswith("#"):
-                lines[name.strip()] = below
-    needed = crates_below("nir_print", lines) | crates_below("nir_validate", lines)
-    for name in needed:
-        shutil.copytree(
-            f"{ROOT}/crates/{name}",
-            f"{folder}/crates/{name}",
-            ignore=shutil.ignore_patterns("must-fail", "*_tests", "*_tests.o"),
-        )
-    with open(f"{folder}/crates.txt", "w", encoding="utf-8") as out:
-        for name in lines:
-            if name in needed:
-                out.write(f"{name}:{lines[name].rstrip()}\n")
-        out.write("bench_shader: nir_validate nir_print nir_text nir_ir nir_host\n")
-    shutil.copy(f"{ROOT}/HANDLES", folder)
-
-
 def build(folder):
     """Proves and builds the program, and answers its path."""
-    copy_checkout(folder)
-    crate = f"{folder}/crates/bench_shader"
-    os.makedirs(f"{crate}/src")
-    # A .rt file outside crates/ would be refused by the gate, hence the other name in the checkout.
-    shutil.copy(f"{HERE}/shader.rt.txt", f"{crate}/src/main.rt")
-    with open(f"{folder}/build.log", "w", encoding="utf-8") as log:
-        subprocess.run(
-            ["rt", "run", "--jobs", "1", "--backend", "llvm", "--", "take"],
-            cwd=crate,
-            stdin=subprocess.DEVNULL,
-            stdout=log,
-            stderr=subprocess.STDOUT,
-        )
-    program = f"{crate}/out/bench_shader"
+    checkout.copy_crates(folder, ("nir_print", "nir_validate"), "bench_shader: nir_validate nir_print nir_text nir_ir nir_host")
+    program, _, written = checkout.build(folder, "bench_shader", "shader.rt.txt", ("take",))
     if not os.path.exists(program):
-        with open(f"{folder}/build.log", encoding="utf-8") as log:
-            stop(f"{log.read()}rt did not build the program")
+        stop(f"{written}rt did not build the program")
     return program
 
 
