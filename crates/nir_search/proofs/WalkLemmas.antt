@@ -1,4 +1,5 @@
 -- How a match goes along a list of terms: the first, and then the others.
+use Rattle.op_eval.specs.Calls.{same_width}
 use Rattle.nir_ir.specs.Definitions.{width_at}
 use Rattle.std.specs.Prelude.{◌≡◌, refl, ◌<◌, ◌+◌, ℕ, suc, List, [], ◌∷◌, ◌++◌, Option, Some, None, Bool, true, false, ◌&&◌, length, drop, if◌then◌else◌}
 use Rattle.std.proofs.Common.{sym, ◌∙◌, ap, subst, get_or}
@@ -16,7 +17,6 @@ use Rattle.rule_term.specs.Lists as lists
 use Rattle.rule_term.specs.Lists.{terms_of-drop, terms_of-var, terms_of-lit, terms_of-app}
 use Rattle.rule_term.specs.Pieces.{terms_count}
 use Rattle.rule_term.specs.Splits.{drop_one, terms_count-terms_of}
-use Rattle.rule_term.specs.Typings.{same_width}
 use Rattle.nir_search.specs.declared.hit.Bind.{Bind}
 use Rattle.nir_search.specs.declared.matching.Walked.{Walked}
 use Rattle.nir_search.specs.Match.{matches, met, bits_behind, bits_left, bind, children, front, is_applied, is_literal, is_swapped, is_taken}

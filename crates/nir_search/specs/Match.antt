@@ -1,4 +1,5 @@
 -- Where a rule matches, after nir_search of Mesa's NIR: a walk along the search side and along what the shader computes, in which each variable takes one view.
+use Rattle.op_eval.specs.Calls.{same_width}
 use Rattle.std.specs.Prelude.{◌+◌, ◌/◌, ◌%◌, ◌^◌, min, ℕ, ℤ, Bool, true, false, not, ◌&&◌, Option, Some, None, List, [], ◌∷◌, ◌++◌, map, replicate, nat_eq, slice_index, slice_get, slice_set, if◌then◌else◌, is_some, drop}
 use Rattle.std.specs.List.{list_all, list_any, range_with_len, slice_index_or}
 use Rattle.std.specs.Option.{option_and_then, option_map, option_map_or, option_to_list}
@@ -22,7 +23,7 @@ use Rattle.rule_term.specs.declared.cond.Cond.TheVariants.{NotConst, UsedOnce}
 use Rattle.rule_term.specs.Conditions.{cond_holds}
 use Rattle.rule_term.specs.Terms.{Terms, Nil, VarThen, LitThen, AppThen}
 use Rattle.rule_term.specs.Rule.{Rule}
-use Rattle.rule_term.specs.Typings.{same_width, search_part, typings}
+use Rattle.rule_term.specs.Typings.{search_part, typings}
 use Rattle.nir_search.specs.declared.hit.Bind.{Bind}
 
 -- A view of a value: which of its components stand in each place. It is written as what a variable is bound to.

@@ -1,4 +1,5 @@
 -- The bit sizes that a match meets: one for each node of the search side, and where the rule stands at 8 bits alone they are of a typing where each is 8.
+use Rattle.op_eval.specs.Calls.{same_width}
 use Rattle.std.specs.Prelude.{◌≡◌, refl, ◌+◌, ℕ, suc, List, [], ◌∷◌, Bool, true, false, ◌&&◌, ◌||◌, length, replicate, drop}
 use Rattle.std.proofs.Common.{sym, ◌∙◌, ap, arith}
 use Rattle.std.proofs.lemmas.List.{take-replicate, length-append}
@@ -12,7 +13,7 @@ use Rattle.rule_term.specs.Rule.{Rule}
 use Rattle.rule_term.specs.Formed.{IsFormed}
 use Rattle.rule_term.specs.EightBit.{is_eight_bit, all_eight}
 use Rattle.rule_term.specs.EightBitTypings.{eight_typings}
-use Rattle.rule_term.specs.Typings.{same_width, search_part, size_of}
+use Rattle.rule_term.specs.Typings.{search_part, size_of}
 use Rattle.nir_search.specs.declared.hit.Bind.{Bind}
 use Rattle.nir_search.specs.Match.{bits_behind, bits_left, children, front, is_swapped, is_typed, met}
 

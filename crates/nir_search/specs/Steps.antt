@@ -1,4 +1,5 @@
 -- The step by a rule: where it is legal, the shader after it, and the shader after a list of steps.
+use Rattle.op_eval.specs.Calls.{same_width}
 use Rattle.nir_ir.specs.Definitions.{kind_at}
 use Rattle.std.specs.Prelude.{ℕ, Bool, false, ◌&&◌, Option, Some, None, List, [], ◌∷◌, nat_eq, is_none, slice_get, if◌then◌else◌}
 use Rattle.std.specs.List.{list_all, find}
@@ -12,7 +13,7 @@ use Rattle.nir_ir.specs.Items.{values_defined}
 use Rattle.nir_ir.specs.Shader.{Shader}
 use Rattle.rule_term.specs.declared.when.Options.{Options}
 use Rattle.rule_term.specs.Rule.{Rule}
-use Rattle.rule_term.specs.Typings.{same_width, search_part, replace_part, typings}
+use Rattle.rule_term.specs.Typings.{search_part, replace_part, typings}
 use Rattle.nir_search.specs.declared.hit.Bind.{Bind}
 use Rattle.nir_search.specs.declared.hit.Hit.{Hit}
 use Rattle.nir_search.specs.Match.{met, root_view}

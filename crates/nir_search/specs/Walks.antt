@@ -1,4 +1,5 @@
 -- What a part of a match answers: none where it fails, else what the variables are bound to behind it.
+use Rattle.op_eval.specs.Calls.{same_width}
 use Rattle.std.specs.Prelude.{◌≡◌, ℕ, Bool, true, false, List, map, Option, Some, None}
 use Rattle.std.specs.List.{list_all}
 use Rattle.nir_ops.specs.declared.width.Width.TheVariants.{W8}
@@ -6,7 +7,6 @@ use Rattle.nir_ops.specs.declared.op.Op.{Op}
 use Rattle.nir_ir.specs.declared.instr.Src.{Src}
 use Rattle.nir_ir.specs.Nodes.{Nodes}
 use Rattle.rule_term.specs.Terms.{Terms}
-use Rattle.rule_term.specs.Typings.{same_width}
 use Rattle.nir_search.specs.declared.hit.Bind.{Bind}
 use Rattle.nir_search.specs.declared.matching.Walked.{Walked}
 use Rattle.nir_search.specs.Match.{matches, met, bits_behind, is_applied, children, child, swapped}

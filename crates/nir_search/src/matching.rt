@@ -1,8 +1,8 @@
 //! The walk of a match: along the search side of a rule, and along what the shader computes.
 
+ghost use Rattle.op_eval.specs.Calls.{same_width};
 ghost use Rattle.std.specs.Prelude.{◌≡◌, ◌≤◌, false, [], ◌∷◌, length, List, map, None, Option};
 ghost use Rattle.std.specs.Option.{option_map};
-ghost use Rattle.rule_term.specs.Typings.{same_width};
 ghost use Rattle.rule_term.specs.Terms.{terms_of, Nil, VarThen, LitThen, AppThen};
 ghost use Rattle.nir_search.specs.Match.{bits_left, child, is_swapped, swapped};
 ghost use Rattle.nir_search.specs.Walks.{IsSources, Walks};

@@ -1,5 +1,6 @@
 -- Calls of an opcode: the bit sizes that fit it, and how many bits each source and the result have.
-use Rattle.std.specs.Prelude.{ℕ, ◌≡◌, ◌==◌, ◌&&◌, List, [], ◌∷◌, Option, Some, None, Bool, true, map}
+use Rattle.std.specs.Prelude.{ℕ, ◌≡◌, ◌==◌, ◌&&◌, List, [], ◌∷◌, Option, Some, None, Bool, true, map, nat_eq}
+use Rattle.std.specs.Cmp.Lexicographic.{pointwise}
 use Rattle.std.specs.List.{list_all}
 use Rattle.nir_ops.specs.declared.op.Op.{Op}
 use Rattle.nir_ops.specs.declared.width.Width.{Width}
@@ -37,6 +38,17 @@ pub record Fits (op : Op) (dst : Width) (widths : List Width) : Type 0 where
   pub allowed : op_allows op (unsized_width op dst widths) ≡ true
   pub result : result_width op (unsized_width op dst widths) ≡ dst
   pub sources : source_widths op (unsized_width op dst widths) ≡ widths
+
+-- bit sizes are the same where they have as many bits
+abbrev pub same_width : Width → Width → Bool
+same_width a b = nat_eq (width_bits a) (width_bits b)
+
+-- the test for that
+unfoldable pub sizes_fit : Op → Width → List Width → Bool
+sizes_fit op dst widths =
+    op_allows op (unsized_width op dst widths)
+    && same_width (result_width op (unsized_width op dst widths)) dst
+    && pointwise same_width (source_widths op (unsized_width op dst widths)) widths
 
 -- how many bits a source has, and 0 where there is none
 abbrev pub bits_of : Option Width → ℕ

@@ -1,5 +1,6 @@
 pub mod Calls
 pub mod Meaning
+pub mod Sizes
 pub mod Views
 pub mod Word
 pub mod Words

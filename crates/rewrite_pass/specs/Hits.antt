@@ -1,4 +1,5 @@
 -- What a hit of a rule of a built table says: what is put, that the shader stays shaped, and that it is lighter.
+use Rattle.op_eval.specs.Calls.{same_width}
 use Rattle.std.specs.Prelude.{◌≡◌, refl, ◌+◌, ℕ, zero, suc, List, [], ◌∷◌, ◌++◌, length, replicate, Option, Some, None, Bool, true, false, not, ◌&&◌, ◌||◌, cond, nat_eq, slice_get}
 use Rattle.std.proofs.Common.{sym, ◌∙◌, ap, subst, arith}
 use Rattle.std.proofs.lemmas.Bool.{and_parts, false≢true, cond-true}
@@ -32,7 +33,7 @@ use Rattle.rule_term.specs.Formed.{IsFormed, is_application, is_each_place, is_m
 use Rattle.rule_term.specs.Pieces.{pieces, terms_count}
 use Rattle.rule_term.specs.Rule.{Rule}
 use Rattle.rule_term.specs.Terms.{Terms, Nil, VarThen, LitThen, AppThen}
-use Rattle.rule_term.specs.Typings.{replace_part, same_width, search_part, size_of}
+use Rattle.rule_term.specs.Typings.{replace_part, search_part, size_of}
 use Rattle.op_eval.specs.Views.{shape_of}
 use Rattle.nir_search.specs.declared.hit.Bind.{Bind}
 use Rattle.nir_search.specs.declared.hit.Hit.{Hit}

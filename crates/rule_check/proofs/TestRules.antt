@@ -7,7 +7,7 @@ use Rattle.nir_ops.specs.declared.width.Width.{Width}
 use Rattle.nir_ops.specs.declared.width.Width.TheVariants.{W1, W8, W16, W32, W64}
 use Rattle.nir_ops.specs.Opcodes.{op_info, row_of, op_allows}
 use Rattle.op_eval.specs.Views.{shape_of}
-use Rattle.op_eval.specs.Calls.{unsized_width, source_widths, result_width}
+use Rattle.op_eval.specs.Calls.{result_width, sizes_fit, source_widths, unsized_width}
 use Rattle.rule_term.specs.declared.cond.Cond.{Cond}
 use Rattle.rule_term.specs.declared.term.Term.{Term}
 use Rattle.rule_term.specs.declared.when.When.TheVariants as when
@@ -15,7 +15,7 @@ use Rattle.rule_term.specs.Terms.{Terms, Nil, VarThen, LitThen, AppThen, terms_o
 use Rattle.rule_term.specs.Lists.{then}
 use Rattle.rule_term.specs.Rule.{Rule}
 use Rattle.rule_term.specs.Formed.{IsFormed, may_stand}
-use Rattle.rule_term.specs.Typings.{is_typing, sizes_fit}
+use Rattle.rule_term.specs.Typings.{is_typing}
 
 abbrev pub rule_of : Terms → Terms → ℕ → Rule
 rule_of search replace vars = record { number = 0; search = search; replace = replace; when = when.Always; vars = vars }

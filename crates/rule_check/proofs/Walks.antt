@@ -1,4 +1,5 @@
 -- What a walk over terms meets, term by term.
+use Rattle.op_eval.specs.Calls.{same_width}
 use Rattle.std.proofs.Common.{◌≡◌, ℕ, ℤ, ◌+◌, ◌-◌, ◌<◌, ◌≤◌, suc, Bool, true, false, ◌&&◌, Option, Some, None, List, [], ◌∷◌, ◌++◌, nat_eq, length, get_or, take, drop, refl, sym, ◌∙◌, ap, arith, add-zero}
 use Rattle.std.specs.List.{find, list_all}
 use Rattle.std.specs.Prelude.{cond}
@@ -15,7 +16,7 @@ use Rattle.rule_term.specs.declared.term.Term.TheVariants as term
 use Rattle.rule_term.specs.Terms.{Terms, Nil, VarThen, LitThen, AppThen, terms_of}
 use Rattle.rule_term.specs.Rule.{Rule}
 use Rattle.rule_term.specs.Lists.{terms_of-var, terms_of-lit, terms_of-app, terms_of-drop}
-use Rattle.rule_term.specs.Typings.{Occurrence, first_of, size_of, occurrences, obeys, same_width, search_part, replace_part, is_typing}
+use Rattle.rule_term.specs.Typings.{Occurrence, first_of, size_of, occurrences, obeys, search_part, replace_part, is_typing}
 use Rattle.rule_check.specs.Cases.{width_found}
 use Rattle.rule_term.specs.Splits.{size_of-then, occurrences-then}
 

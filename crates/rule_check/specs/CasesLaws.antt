@@ -1,4 +1,5 @@
 -- The tuples of a typing are all values that its variables can have, so where the trial finds no difference both sides are equal.
+use Rattle.op_eval.specs.Calls.{same_width}
 use Rattle.std.specs.Prelude.{◌≡◌, refl, ◌+◌, ◌*◌, ◌/◌, ◌%◌, ◌^◌, ◌<◌, ◌≤◌, ℕ, zero, suc, Bool, true, false, not, ◌&&◌, ◌||◌, Option, Some, None, List, [], ◌∷◌, ◌++◌, map, sum, length, nat_eq, nat_lt, cond}
 use Rattle.std.specs.List.{find, list_all, list_any, range_with_len}
 use Rattle.std.specs.Option.{option_map, unwrap_or}
@@ -17,7 +18,7 @@ use Rattle.rule_term.specs.Pieces.{vars_of}
 use Rattle.rule_term.specs.Splits.{vars_of-occurrences}
 use Rattle.rule_term.specs.Rule.{Rule}
 use Rattle.rule_term.specs.Formed.{IsFormed, numbered}
-use Rattle.rule_term.specs.Typings.{Occurrence, occurrences, alike, agree, search_part, replace_part, same_width, is_typing}
+use Rattle.rule_term.specs.Typings.{Occurrence, occurrences, alike, agree, search_part, replace_part, is_typing}
 use Rattle.rule_term.specs.Holds.{values_of, is_word, are_words, are_met, EqualAt}
 use Rattle.rule_check.specs.declared.cases.Trial.TheVariants.{Equal, TooMany}
 use Rattle.rule_check.specs.Cases.{trial_answer, trial_of, width_among, var_width, var_bits, free_bits, tuple, tuples, differs_at, first_difference}

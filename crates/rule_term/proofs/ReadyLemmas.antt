@@ -1,4 +1,5 @@
 -- Terms that are ready to be evaluated, taken apart: the first and the rest, and a variable, a number and an opcode.
+use Rattle.op_eval.specs.Sizes.{Fits-from_sizes_fit}
 use Rattle.std.proofs.Common.{◌≡◌, ℕ, ◌+◌, ◌<◌, ◌≤◌, ◌^◌, suc, ℤ, Bool, true, ◌&&◌, Option, List, [], ◌∷◌, ◌++◌, length, drop, nat_eq, nat_lt, sym, ◌∙◌, ap, subst, arith}
 use Rattle.std.proofs.lemmas.Bool.{and_parts, ltb-true, eqb-true}
 use Rattle.std.proofs.lemmas.List.{append-nil, length-drop}
@@ -8,7 +9,7 @@ use Rattle.nir_ops.specs.declared.op.Op.{Op}
 use Rattle.nir_ops.specs.declared.width.Width.{Width}
 use Rattle.nir_ops.specs.Width.{width_bits}
 use Rattle.nir_ops.specs.Opcodes.{op_info}
-use Rattle.op_eval.specs.Calls.{per_component, Fits}
+use Rattle.op_eval.specs.Calls.{Fits, per_component, sizes_fit}
 use Rattle.rule_term.specs.declared.cond.Cond.{Cond}
 use Rattle.rule_term.specs.declared.term.Term.{Term, Term-F, out-Term, map-Term}
 use Rattle.rule_term.specs.declared.term.Term.TheVariants as term
@@ -18,10 +19,9 @@ use Rattle.rule_term.specs.Lists.{then, terms_of-var, terms_of-lit, terms_of-app
 use Rattle.rule_term.specs.Splits.{size_of-then, pieces-then, obeys-then, occurrences-then}
 use Rattle.rule_term.specs.Pieces.{pieces, terms_count}
 use Rattle.rule_term.specs.Formed.{may_stand}
-use Rattle.rule_term.specs.Typings.{size_of, first_of, roots, obeys, has_size, sizes_fit, occurrences}
+use Rattle.rule_term.specs.Typings.{size_of, first_of, roots, obeys, has_size, occurrences}
 use Rattle.rule_term.specs.Holds.{is_word}
 use Rattle.rule_term.specs.Ready.{IsReady, piece_ready}
-use Rattle.rule_term.specs.Sizes.{Fits-from_sizes_fit}
 use Rattle.rule_term.proofs.OpcodeLemmas.{few_inputs}
 use Rattle.rule_term.specs.Standing.{per_component-from_may_stand}
 

@@ -1,4 +1,5 @@
 -- The least sizes of terms obey what is asked of them where terms can have their roots, and none that obey stand before them.
+use Rattle.op_eval.specs.Sizes.{same_width-refl, same_width-same}
 use Rattle.std.specs.Prelude.{◌≡◌, refl, ◌≤◌, ◌<◌, ◌+◌, ℕ, zero, suc, Bool, true, ◌&&◌, Option, List, [], ◌∷◌, ◌++◌, length, nat_eq, nat_lt, is_some}
 use Rattle.std.proofs.Common.{◌∙◌, ap, sym, subst, arith, take, drop, ⊎_elim, append_assoc}
 use Rattle.std.proofs.lemmas.Bool.{and_parts, and_from, or_right, eqb-true, eq-eqb, cases_order}
@@ -10,13 +11,12 @@ use Rattle.nir_ops.specs.declared.op.Op.{Op}
 use Rattle.nir_ops.specs.declared.width.Width.{Width}
 use Rattle.nir_ops.specs.Width.{width_bits}
 use Rattle.nir_ops.specs.Opcodes.{op_allows, op_info}
-use Rattle.op_eval.specs.Calls.{source_widths, result_width}
+use Rattle.op_eval.specs.Calls.{result_width, same_width, sizes_fit, source_widths}
 use Rattle.rule_term.specs.Terms.{Terms, Nil, VarThen, LitThen, AppThen}
 use Rattle.rule_term.specs.Pieces.{pieces, terms_count}
 use Rattle.rule_term.specs.Splits.{length-roots}
 use Rattle.rule_term.specs.EightBitLaws.{has_sources}
-use Rattle.rule_term.specs.Typings.{size_of, first_of, roots, obeys, has_size, literal_fits, same_width, sizes_fit, occurrences}
-use Rattle.rule_term.specs.Sizes.{same_width-refl, same_width-same}
+use Rattle.rule_term.specs.Typings.{size_of, first_of, roots, obeys, has_size, literal_fits, occurrences}
 use Rattle.rule_term.specs.ReplaceLeast.{every_width, can, is_unsized_for, least, unsized_for}
 use Rattle.rule_term.proofs.ReplaceFirst.{not_after, not_after-append, not_after-first}
 use Rattle.rule_term.proofs.ReplaceRoots.{length-least}

@@ -1,4 +1,6 @@
 -- The first of the lists of sizes that pass a test is the one that no other stands before in lexicographic order.
+use Rattle.op_eval.specs.Calls.{same_width}
+use Rattle.op_eval.specs.Sizes.{same_width-refl}
 use Rattle.std.specs.Prelude.{◌≡◌, refl, ◌<◌, ℕ, suc, Bool, true, false, ◌&&◌, ◌||◌, Option, Some, None, List, [], ◌∷◌, ◌++◌, filter, length, cond, nat_lt}
 use Rattle.std.proofs.Common.{◌∙◌, ap, sym, arith, ⊎_elim}
 use Rattle.std.proofs.lemmas.Bool.{and_parts, and_from, or_cases, or_left, or_right, ltb-true, lt-ltb, eqb-true}
@@ -9,8 +11,7 @@ use Rattle.nir_ops.specs.declared.width.Width.{Width}
 use Rattle.nir_ops.specs.declared.width.Width.TheVariants.{W1, W8, W16, W32, W64}
 use Rattle.nir_ops.specs.Width.{width_bits}
 use Rattle.rule_term.specs.OneTyping.{begun, width_lists-length}
-use Rattle.rule_term.specs.Sizes.{same_width-refl}
-use Rattle.rule_term.specs.Typings.{first_of, same_width, width_lists}
+use Rattle.rule_term.specs.Typings.{first_of, width_lists}
 
 -- a list does not stand behind another in lexicographic order
 abbrev pub not_after : List Width → List Width → Bool

@@ -1,4 +1,6 @@
 -- The occurrences of variables are noted where those of one variable have one size, and then each is known.
+use Rattle.op_eval.specs.Sizes.{same_width-refl, same_width-same}
+use Rattle.op_eval.specs.Calls.{same_width}
 use Rattle.std.specs.Prelude.{◌≡◌, refl, ◌<◌, ℕ, zero, suc, Bool, true, false, not, ◌&&◌, Option, Some, None, List, [], ◌∷◌, ◌++◌, length, cond, map, nat_eq, nat_lt, slice_get, replicate}
 use Rattle.std.proofs.Common.{◌∙◌, ◌⊎◌, ap, sym, subst, arith, set, ⊎_elim, inl, inr}
 use Rattle.std.proofs.lemmas.Bool.{and_parts, and_from, or_cases, or_left, or_right, ltb-true, eqb-true, eq-eqb, cases_Bool, false≢true, cases_order}
@@ -8,8 +10,7 @@ use Rattle.std.proofs.lemmas.Option.{none-some}
 use Rattle.std.specs.List.{list_all, list_any}
 use Rattle.std.specs.Option.{option_and_then, unwrap_or}
 use Rattle.nir_ops.specs.declared.width.Width.{Width}
-use Rattle.rule_term.specs.Typings.{same_width, Occurrence, alike, agree}
-use Rattle.rule_term.specs.Sizes.{same_width-refl, same_width-same}
+use Rattle.rule_term.specs.Typings.{Occurrence, alike, agree}
 use Rattle.rule_term.specs.ReplaceLeast.{is_known, knows, noted, noted_at, noted_one}
 
 abbrev pub Known : Type 0

@@ -10,7 +10,7 @@ use Rattle.nir_ops.specs.declared.width.Width.{Width}
 use Rattle.nir_ops.specs.declared.width.Width.TheVariants.{W1, W8, W16, W32, W64}
 use Rattle.nir_ops.specs.declared.row.OpInput.{OpInput}
 use Rattle.nir_ops.specs.Opcodes.{op_allows, op_info}
-use Rattle.op_eval.specs.Calls.{size_at, source_widths, result_width}
+use Rattle.op_eval.specs.Calls.{result_width, same_width, size_at, source_widths}
 use Rattle.rule_term.specs.declared.cond.Cond.{Cond}
 use Rattle.rule_term.specs.declared.term.Term.{Term}
 use Rattle.rule_term.specs.declared.term.Term.TheVariants as term
@@ -19,7 +19,7 @@ use Rattle.rule_term.specs.Terms.{Terms, Nil, VarThen, LitThen, AppThen, terms_o
 use Rattle.rule_term.specs.Lists.{then, terms_of-var, terms_of-lit, terms_of-app, terms_of-drop}
 use Rattle.rule_term.specs.Pieces.{terms_count}
 use Rattle.rule_term.specs.Splits.{drop_one, terms_count-terms_of}
-use Rattle.rule_term.specs.Typings.{size_of, first_of, has_size, literal_fits, same_width}
+use Rattle.rule_term.specs.Typings.{size_of, first_of, has_size, literal_fits}
 use Rattle.rule_term.specs.ReplaceLeast.{every_width, can, is_unsized_for, least, set_has, set_of, unsized_for}
 
 -- a set has the sizes that pass its test, and no others

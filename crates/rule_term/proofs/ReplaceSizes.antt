@@ -1,4 +1,5 @@
 -- An opcode fits its sizes at an unsized size where it works at it and has its result then; and of two such sizes the least gives the least sources.
+use Rattle.op_eval.specs.Sizes.{same_width-same, same_widths-refl, same_widths-same}
 use Rattle.std.specs.Prelude.{◌≡◌, refl, ◌≤◌, ◌<◌, Bool, true, false, ◌&&◌, ◌||◌, Option, Some, None, List, [], ◌∷◌, length, map, is_none, is_some, cond}
 use Rattle.std.proofs.Common.{◌∙◌, ◌⊎◌, ap, sym, subst, arith, ⊎_elim, inl, inr}
 use Rattle.std.proofs.lemmas.Bool.{and_parts, and_from, or_cases, false≢true}
@@ -13,9 +14,8 @@ use Rattle.nir_ops.specs.declared.width.Width.{Width}
 use Rattle.nir_ops.specs.declared.width.Width.TheVariants.{W1, W8, W16, W32, W64}
 use Rattle.nir_ops.specs.Width.{width_bits}
 use Rattle.nir_ops.specs.Opcodes.{op_allows, op_info, row_of}
-use Rattle.op_eval.specs.Calls.{size_at, unsized_of, unsized_width, source_widths, result_width}
-use Rattle.rule_term.specs.Typings.{first_of, same_width, sizes_fit}
-use Rattle.rule_term.specs.Sizes.{same_width-same, same_widths-refl, same_widths-same}
+use Rattle.op_eval.specs.Calls.{result_width, same_width, size_at, sizes_fit, source_widths, unsized_of, unsized_width}
+use Rattle.rule_term.specs.Typings.{first_of}
 use Rattle.rule_term.specs.ReplaceLeast.{every_width}
 
 -- the unsized size is that of the result, or that of the first source, or plays no part

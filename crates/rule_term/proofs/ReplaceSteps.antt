@@ -1,11 +1,12 @@
 -- What is asked of the sizes of terms, by the first of them: whether they obey, and which variables are noted.
+use Rattle.op_eval.specs.Sizes.{same_widths-same}
 use Rattle.std.proofs.Common.{◌≡◌, refl, ℕ, suc, ◌+◌, ◌<◌, ℤ, Bool, true, false, ◌&&◌, Option, Some, None, List, [], ◌∷◌, ◌++◌, length, get_or, drop, sym, ap, ◌∙◌, arith}
 use Rattle.std.proofs.Math.Bool.{and-true}
 use Rattle.std.proofs.lemmas.List.{append-nil, drop-drop, drop_more, get_or-drop}
 use Rattle.std.specs.Option.{option_and_then}
 use Rattle.std.specs.Prelude.{is_none}
 use Rattle.std.proofs.lemmas.Bool.{false_from_ne_true, true≢false}
-use Rattle.op_eval.specs.Calls.{unsized_of}
+use Rattle.op_eval.specs.Calls.{same_width, sizes_fit, unsized_of}
 use Rattle.std.specs.Cmp.Lexicographic.{pointwise}
 use Rattle.std.specs.List.{slice_index_or}
 use Rattle.nir_ops.specs.declared.op.Op.{Op}
@@ -18,9 +19,8 @@ use Rattle.rule_term.specs.declared.term.Term.TheVariants as term
 use Rattle.rule_term.specs.Terms.{Terms, Nil, VarThen, LitThen, AppThen, terms_of}
 use Rattle.rule_term.specs.Lists.{terms_of-var, terms_of-lit, terms_of-app, terms_of-drop}
 use Rattle.rule_term.specs.Splits.{obeys-then, roots-then, occurrences-then, length-roots, terms_count-terms_of}
-use Rattle.rule_term.specs.Typings.{size_of, first_of, roots, obeys, has_size, same_width, literal_fits, sizes_fit, Occurrence, occurrences}
+use Rattle.rule_term.specs.Typings.{size_of, first_of, roots, obeys, has_size, literal_fits, Occurrence, occurrences}
 use Rattle.rule_term.specs.ReplaceLeast.{noted, noted_one}
-use Rattle.rule_term.specs.Sizes.{same_widths-same}
 use Rattle.rule_term.proofs.NodesLemmas.{size_of-app}
 use Rattle.rule_term.proofs.ReadyLemmas.{some_node}
 

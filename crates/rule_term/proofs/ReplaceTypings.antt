@@ -1,4 +1,6 @@
 -- The first typing of a rule with a search part has the least sizes of the replacement, where the variables have the sizes of the search side and the roots agree.
+use Rattle.op_eval.specs.Sizes.{same_width-refl, same_width-same, same_widths-refl, same_widths-same}
+use Rattle.op_eval.specs.Calls.{same_width}
 use Rattle.std.specs.Prelude.{◌≡◌, refl, ◌≤◌, ◌+◌, ◌*◌, ℕ, Bool, true, false, not, ◌&&◌, ◌||◌, Some, None, List, [], ◌∷◌, ◌++◌, length, map, cond, nat_eq, nat_lt, nat_le, replicate}
 use Rattle.std.proofs.Common.{◌∙◌, ap, sym, subst, arith}
 use Rattle.std.proofs.lemmas.Bool.{and_parts, and_from, ltb-true, lt-ltb, leb-true, eqb-true, false≢true}
@@ -21,9 +23,8 @@ use Rattle.rule_term.specs.Formed.{IsFormed, may_stand}
 use Rattle.rule_term.specs.Ready.{piece_ready}
 use Rattle.rule_term.specs.Splits.{vars_of-occurrences}
 use Rattle.rule_term.specs.EightBitLaws.{one_root, replace_sourced}
-use Rattle.rule_term.specs.Typings.{size_of, first_of, roots, obeys, same_width, Occurrence, occurrences, agree, search_part, replace_part, is_typing, typings, width_lists}
+use Rattle.rule_term.specs.Typings.{size_of, first_of, roots, obeys, Occurrence, occurrences, agree, search_part, replace_part, is_typing, typings, width_lists}
 use Rattle.rule_term.specs.Typed.{IsTyped, IsTyped-from_is_typing, is_typing-from_IsTyped}
-use Rattle.rule_term.specs.Sizes.{same_width-same, same_width-refl, same_widths-same, same_widths-refl}
 use Rattle.rule_term.specs.Replaced.{has_search, replace_for}
 use Rattle.rule_term.specs.ReplaceLeast.{can, knows, least, noted}
 use Rattle.rule_term.proofs.SideLemmas.{covered, numbered_below, replace_pieces}

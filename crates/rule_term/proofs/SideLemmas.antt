@@ -1,4 +1,5 @@
 -- A typing of a formed rule, and words for its variables, make both sides ready: each variable stands on the search side, and all its occurrences have one size.
+use Rattle.op_eval.specs.Calls.{same_width}
 use Rattle.std.proofs.Common.{◌≡◌, refl, ℕ, suc, ◌<◌, ◌≤◌, ◌^◌, Bool, true, false, not, ◌&&◌, ◌||◌, cond, List, [], ◌∷◌, ◌++◌, length, map, nat_eq, nat_lt, sym, ◌∙◌, subst, ⊎_elim, arith}
 use Rattle.std.proofs.lemmas.Bool.{and_parts, and_from, or_left, or_right, or_cases, ltb-true, lt-ltb, eqb-true, eq-eqb, cases_order, false≢true}
 use Rattle.std.proofs.lemmas.List.{length-drop, length-take}
@@ -10,7 +11,7 @@ use Rattle.rule_term.specs.Splits.{vars_of-occurrences}
 use Rattle.rule_term.specs.Pieces.{Piece, VarPiece, LitPiece, AppPiece, pieces, var_of, vars_of}
 use Rattle.rule_term.specs.Rule.{Rule}
 use Rattle.rule_term.specs.Formed.{IsFormed, search_piece_formed, replace_piece_formed, numbered}
-use Rattle.rule_term.specs.Typings.{size_of, same_width, Occurrence, occurrences, alike, search_part, replace_part, is_typing}
+use Rattle.rule_term.specs.Typings.{size_of, Occurrence, occurrences, alike, search_part, replace_part, is_typing}
 use Rattle.rule_term.specs.Holds.{is_word, are_words}
 use Rattle.rule_term.specs.Typed.{IsTyped-from_is_typing}
 use Rattle.rule_term.specs.Ready.{IsReady, piece_ready}

@@ -1,4 +1,5 @@
 -- Rules that stand at 8 bits alone: no opcode has a size of its own, and a variable asks for 8 bits.
+use Rattle.op_eval.specs.Calls.{same_width}
 use Rattle.std.specs.Prelude.{◌+◌, Bool, true, false, not, ◌&&◌, Option, Some, None, List, replicate, is_none}
 use Rattle.std.specs.List.{list_all, list_any}
 use Rattle.nir_ops.specs.declared.op.Op.{Op}
@@ -7,7 +8,7 @@ use Rattle.nir_ops.specs.declared.width.Width.TheVariants.{W8}
 use Rattle.nir_ops.specs.Opcodes.{op_info, op_allows}
 use Rattle.rule_term.specs.Pieces.{Piece, VarPiece, LitPiece, AppPiece, pieces}
 use Rattle.rule_term.specs.Rule.{Rule}
-use Rattle.rule_term.specs.Typings.{literal_fits, same_width, size_of}
+use Rattle.rule_term.specs.Typings.{literal_fits, size_of}
 
 -- all sources and the result have the unsized size, which may be 8
 unfoldable pub is_unsized : Op → Bool

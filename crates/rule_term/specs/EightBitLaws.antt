@@ -1,4 +1,5 @@
 -- A rule that stands at 8 bits alone has one typing, with 8 bits for each node, and holds where its sides are equal there.
+use Rattle.op_eval.specs.Sizes.{Fits-from_sizes_fit, same_width-refl, same_width-replicate, same_width-same, same_widths-refl}
 use Rattle.std.specs.Prelude.{◌≡◌, refl, ◌≤◌, ◌+◌, ◌-◌, ℕ, zero, suc, ℤ, Bool, true, false, not, ◌&&◌, Option, Some, None, List, [], ◌∷◌, ◌++◌, length, replicate, is_none, map, nat_eq}
 use Rattle.std.proofs.Common.{sym, ◌∙◌, ap, subst, take, drop, arith, ⊎_elim}
 use Rattle.std.proofs.lemmas.Bool.{and_parts, and_from, or_cases, or_right, false≢true, eqb-true}
@@ -13,13 +14,12 @@ use Rattle.nir_ops.specs.declared.row.OpInput.{OpInput}
 use Rattle.nir_ops.specs.declared.width.Width.{Width}
 use Rattle.nir_ops.specs.declared.width.Width.TheVariants.{W8}
 use Rattle.nir_ops.specs.Opcodes.{op_info, op_allows}
-use Rattle.op_eval.specs.Calls.{size_at, unsized_of, unsized_width, source_widths, result_width}
+use Rattle.op_eval.specs.Calls.{result_width, same_width, size_at, sizes_fit, source_widths, unsized_of, unsized_width}
 use Rattle.rule_term.specs.Terms.{Terms, Nil, VarThen, LitThen, AppThen}
 use Rattle.rule_term.specs.Pieces.{Piece, VarPiece, LitPiece, AppPiece, pieces, terms_count}
 use Rattle.rule_term.specs.Rule.{Rule}
 use Rattle.rule_term.specs.Formed.{IsFormed, may_stand, literal_formed, search_piece_formed, replace_piece_formed}
-use Rattle.rule_term.specs.Typings.{size_of, first_of, roots, obeys, has_size, literal_fits, same_width, sizes_fit, Occurrence, occurrences, alike, search_part, replace_part, is_typing}
-use Rattle.rule_term.specs.Sizes.{same_width-refl, same_width-same, same_widths-refl, same_width-replicate, Fits-from_sizes_fit}
+use Rattle.rule_term.specs.Typings.{size_of, first_of, roots, obeys, has_size, literal_fits, Occurrence, occurrences, alike, search_part, replace_part, is_typing}
 use Rattle.rule_term.specs.Holds.{EqualAt, Holds}
 use Rattle.rule_term.specs.Typed.{IsTyped-from_is_typing, is_typing-from_IsTyped}
 use Rattle.rule_term.specs.EightBit.{is_unsized, eight_or_none, is_eight, eight_piece, asks_eight, is_eight_bit, all_eight}

@@ -18,7 +18,6 @@ pub mod ReplaceWorked
 pub mod Replaced
 pub mod Rule
 pub mod Sides
-pub mod Sizes
 pub mod Splits
 pub mod Standing
 pub mod Table

@@ -7,9 +7,9 @@ use Rattle.nir_ops.specs.declared.op.Op.{Op}
 use Rattle.nir_ops.specs.declared.width.Width.{Width}
 use Rattle.nir_ops.specs.declared.width.Width.TheVariants.{W1, W8, W16, W32, W64}
 use Rattle.nir_ops.specs.Opcodes.{op_allows}
-use Rattle.op_eval.specs.Calls.{source_widths, result_width}
+use Rattle.op_eval.specs.Calls.{result_width, same_width, source_widths}
 use Rattle.rule_term.specs.Terms.{Terms, Nil, VarThen, LitThen, AppThen}
-use Rattle.rule_term.specs.Typings.{first_of, has_size, same_width, literal_fits, Occurrence}
+use Rattle.rule_term.specs.Typings.{first_of, has_size, literal_fits, Occurrence}
 use Rattle.rule_term.specs.declared.width_set.WidthSet.{WidthSet}
 
 -- all sizes, in order

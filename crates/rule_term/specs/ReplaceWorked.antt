@@ -3,11 +3,11 @@ use Rattle.std.specs.Prelude.{◌≡◌, refl, pos, false, Some, None, [], ◌�
 use Rattle.nir_ops.specs.declared.op.Op.TheVariants.{U2u8, Inot, Ieq}
 use Rattle.nir_ops.specs.declared.width.Width.TheVariants.{W1, W8, W16}
 use Rattle.nir_ops.specs.Opcodes.{op_info, op_allows, row_of}
-use Rattle.op_eval.specs.Calls.{unsized_width, source_widths, result_width}
+use Rattle.op_eval.specs.Calls.{result_width, sizes_fit, source_widths, unsized_width}
 use Rattle.rule_term.specs.declared.when.When.TheVariants.{Always}
 use Rattle.rule_term.specs.Terms.{Nil, VarThen, LitThen, AppThen}
 use Rattle.rule_term.specs.Rule.{Rule}
-use Rattle.rule_term.specs.Typings.{sizes_fit, is_typing, typings, width_lists}
+use Rattle.rule_term.specs.Typings.{is_typing, typings, width_lists}
 use Rattle.rule_term.specs.Replaced.{replace_for}
 
 -- from (u2u8 a) to a

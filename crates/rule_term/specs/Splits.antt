@@ -9,7 +9,7 @@ use Rattle.std.proofs.lemmas.Grind.{flat_map-append}
 use Rattle.std.specs.List.{slice_index_or}
 use Rattle.nir_ops.specs.declared.width.Width.{Width}
 use Rattle.nir_ops.specs.Width.{width_bits}
-use Rattle.op_eval.specs.Calls.{unsized_width}
+use Rattle.op_eval.specs.Calls.{sizes_fit, unsized_width}
 use Rattle.op_eval.specs.Meaning.{op_mean}
 use Rattle.op_eval.specs.Word.{residue}
 use Rattle.rule_term.specs.declared.term.Term.{Term, Term-F, out-Term, map-Term}
@@ -17,7 +17,7 @@ use Rattle.rule_term.specs.declared.term.Term.TheOpen as layer
 use Rattle.rule_term.specs.Terms.{Terms, Nil, VarThen, LitThen, AppThen, before, before_layer, before-out, terms_of}
 use Rattle.rule_term.specs.Lists.{then}
 use Rattle.rule_term.specs.Pieces.{VarPiece, LitPiece, AppPiece, pieces, terms_count, var_of, vars_of}
-use Rattle.rule_term.specs.Typings.{size_of, first_of, roots, obeys, has_size, literal_fits, sizes_fit, Occurrence, occurrences}
+use Rattle.rule_term.specs.Typings.{size_of, first_of, roots, obeys, has_size, literal_fits, Occurrence, occurrences}
 use Rattle.rule_term.specs.Holds.{values_of}
 
 -- the sizes behind a node, and behind those that stand under it

@@ -1,9 +1,10 @@
 -- A typing of a rule, taken apart.
+use Rattle.op_eval.specs.Calls.{same_width}
 use Rattle.std.specs.Prelude.{◌≡◌, ◌+◌, true, List, ◌++◌, length}
 use Rattle.std.proofs.lemmas.Bool.{and_parts, and_from, eqb-true, eq-eqb}
 use Rattle.nir_ops.specs.declared.width.Width.{Width}
 use Rattle.rule_term.specs.Rule.{Rule}
-use Rattle.rule_term.specs.Typings.{size_of, first_of, obeys, same_width, occurrences, agree, search_part, replace_part, is_typing}
+use Rattle.rule_term.specs.Typings.{size_of, first_of, obeys, occurrences, agree, search_part, replace_part, is_typing}
 
 pub record IsTyped (rule : Rule) (widths : List Width) : Type 0 where
   pub count : length widths ≡ size_of rule.search + size_of rule.replace

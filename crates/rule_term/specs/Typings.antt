@@ -1,14 +1,11 @@
 -- The typings of a rule: which bit sizes its nodes can have. Opcodes ask for sizes of their sources and their result, variables have one size each, and both sides end in one size.
 use Rattle.std.specs.Prelude.{◌+◌, ◌-◌, ◌^◌, ℕ, zero, suc, ℤ, pos, negsuc, Bool, true, false, not, ◌&&◌, ◌||◌, Option, Some, None, List, [], ◌∷◌, ◌++◌, length, map, filter, nat_eq, nat_lt}
 use Rattle.std.specs.List.{list_all, flat_map, slice_index_or}
-use Rattle.std.specs.Cmp.Lexicographic.{pointwise}
 use Rattle.std.proofs.Common.{take, drop}
-use Rattle.nir_ops.specs.declared.op.Op.{Op}
 use Rattle.nir_ops.specs.declared.width.Width.{Width}
 use Rattle.nir_ops.specs.declared.width.Width.TheVariants.{W1, W8, W16, W32, W64}
 use Rattle.nir_ops.specs.Width.{width_bits}
-use Rattle.nir_ops.specs.Opcodes.{op_allows}
-use Rattle.op_eval.specs.Calls.{unsized_width, source_widths, result_width}
+use Rattle.op_eval.specs.Calls.{same_width, sizes_fit}
 use Rattle.rule_term.specs.declared.cond.Cond.{Cond}
 use Rattle.rule_term.specs.Terms.{Terms, Nil, VarThen, LitThen, AppThen}
 use Rattle.rule_term.specs.Rule.{Rule}
@@ -19,9 +16,6 @@ size_of Nil = 0
 size_of (VarThen var constant size cond rest) = suc (size_of rest)
 size_of (LitThen value boolean rest) = suc (size_of rest)
 size_of (AppThen op size once args rest) = suc (size_of args + size_of rest)
-
-abbrev pub same_width : Width → Width → Bool
-same_width a b = nat_eq (width_bits a) (width_bits b)
 
 -- the size of the first node
 abbrev pub first_of : List Width → Width
@@ -44,13 +38,6 @@ abbrev pub literal_fits : ℤ → Bool → Width → Bool
 literal_fits value true width = nat_eq (width_bits width) 1
 literal_fits (pos n) false width = nat_lt n (2 ^ width_bits width)
 literal_fits (negsuc n) false width = nat_lt n (2 ^ (width_bits width - 1))
-
--- sources and result of these sizes fit the opcode
-unfoldable pub sizes_fit : Op → Width → List Width → Bool
-sizes_fit op dst widths =
-    op_allows op (unsized_width op dst widths)
-    && same_width (result_width op (unsized_width op dst widths)) dst
-    && pointwise same_width (source_widths op (unsized_width op dst widths)) widths
 
 -- what is asked of the sizes of each node by itself
 abbrev pub obeys : Terms → List Width → Bool

@@ -5,7 +5,7 @@ use Rattle.std.proofs.Common.{ap, arith, lit≤}
 use Rattle.nir_ops.specs.declared.op.Op.TheVariants.{Iadd, Isub, Ineg}
 use Rattle.nir_ops.specs.declared.width.Width.TheVariants.{W8, W32}
 use Rattle.nir_ops.specs.Opcodes.{op_info, op_allows, row_of}
-use Rattle.op_eval.specs.Calls.{unsized_width, source_widths, result_width}
+use Rattle.op_eval.specs.Calls.{result_width, sizes_fit, source_widths, unsized_width}
 use Rattle.op_eval.specs.Meaning.{op_mean, meaning}
 use Rattle.op_eval.specs.Views.{shape_of}
 use Rattle.op_eval.specs.Word.{residue}
@@ -13,7 +13,7 @@ use Rattle.rule_term.specs.declared.when.When.TheVariants.{Always}
 use Rattle.rule_term.specs.Terms.{Nil, VarThen, LitThen, AppThen}
 use Rattle.rule_term.specs.Rule.{Rule}
 use Rattle.rule_term.specs.Formed.{IsFormed, may_stand}
-use Rattle.rule_term.specs.Typings.{sizes_fit, is_typing, search_part, replace_part}
+use Rattle.rule_term.specs.Typings.{is_typing, search_part, replace_part}
 use Rattle.rule_term.specs.Holds.{values_of, are_words, Holds}
 use Rattle.rule_term.specs.EightBit.{is_eight_bit, is_unsized}
 use Rattle.rule_term.specs.EightBitLaws.{eight_holds}

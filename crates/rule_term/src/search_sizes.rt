@@ -2,10 +2,10 @@
 
 ghost use Rattle.std.specs.Prelude.{◌≡◌, ◌≤◌, [], ◌∷◌, length, map, nat_eq};
 ghost use Rattle.std.specs.Cmp.Lexicographic.{pointwise};
-ghost use Rattle.op_eval.specs.Calls.{size_at, unsized_of};
+ghost use Rattle.op_eval.specs.Calls.{same_width, size_at, sizes_fit, unsized_of};
 ghost use Rattle.rule_term.specs.ReplaceLeast.{noted, noted_one};
 ghost use Rattle.rule_term.specs.Terms.{terms_of};
-ghost use Rattle.rule_term.specs.Typings.{has_size, literal_fits, obeys, occurrences, roots, same_width, size_of, sizes_fit};
+ghost use Rattle.rule_term.specs.Typings.{has_size, literal_fits, obeys, occurrences, roots, size_of};
 
 use crate::nodes::nodes_in;
 use crate::term::Term;
@@ -96,7 +96,7 @@ fn obeys_terms(terms: &[Term], widths: &[Width]) -> bool
 }
 
 /// Whether a result of this size and the sources fit the opcode.
-#[tactic(auto, unfolding(crate::specs::Typings::sizes_fit, op_eval::specs::Calls::unsized_width, op_eval::specs::Calls::result_width, op_eval::specs::Calls::source_widths))]
+#[tactic(auto, unfolding(op_eval::specs::Calls::sizes_fit, op_eval::specs::Calls::unsized_width, op_eval::specs::Calls::result_width, op_eval::specs::Calls::source_widths))]
 fn sizes_fit(op: Op, dst: Width, args: &[Term], widths: &[Width]) -> bool
     requires enough { size_of (terms_of args.now) ≤ length widths.now }
     ensures { result ≡ sizes_fit op dst (roots (terms_of args.now) widths.now) }

@@ -5,10 +5,10 @@ ghost use Rattle.nir_ops.specs.declared.width.Width.{Width as Size};
 ghost use Rattle.std.proofs.Common.{drop};
 ghost use Rattle.std.specs.List.{find};
 ghost use Rattle.nir_ops.specs.Opcodes.{op_allows};
-ghost use Rattle.op_eval.specs.Calls.{result_width, size_at, source_widths};
+ghost use Rattle.op_eval.specs.Calls.{result_width, same_width, size_at, source_widths};
 ghost use Rattle.rule_term.specs.ReplaceLeast.{can, every_width, knows, set_has, set_of};
 ghost use Rattle.rule_term.specs.Terms.{terms_of};
-ghost use Rattle.rule_term.specs.Typings.{first_of, has_size, literal_fits, same_width};
+ghost use Rattle.rule_term.specs.Typings.{first_of, has_size, literal_fits};
 
 use crate::search_sizes::{has_size, literal_fits, same_width, size_at};
 use crate::term::Term;

@@ -1,9 +1,9 @@
 -- what was matched, and what is matched behind it, is the whole match
+use Rattle.op_eval.specs.Calls.{same_width}
 use Rattle.std.proofs.Common.{◌≡◌, ◌&&◌, drop, map}
 use Rattle.std.specs.List.{list_all}
 use Rattle.nir_ops.specs.declared.width.Width.TheVariants.{W8}
 use Rattle.rule_term.specs.Terms.{terms_of}
-use Rattle.rule_term.specs.Typings.{same_width}
 use Rattle.nir_search.specs.Match.{matches, met, bits_behind, child, swapped}
 use Rattle.nir_search.proofs.matching.+matching.Given as goal
 

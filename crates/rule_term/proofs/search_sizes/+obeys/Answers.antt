@@ -1,9 +1,10 @@
+use Rattle.op_eval.specs.Calls.{sizes_fit}
 use Rattle.std.proofs.Common.{◌≡◌, refl, ◌∙◌, ◌+◌, sym, ap, true, false, ◌&&◌, [], ◌∷◌, drop, length, arith, rules}
 use Rattle.std.proofs.lemmas.List.{take_rest, length-drop}
 use denote.Param.Weighed.{at_most}
 use Rattle.rule_term.specs.declared.term.Term.{the_lemmas}
 use Rattle.rule_term.specs.Terms.{Nil, terms_of}
-use Rattle.rule_term.specs.Typings.{first_of, has_size, obeys, roots, size_of, sizes_fit}
+use Rattle.rule_term.specs.Typings.{first_of, has_size, obeys, roots, size_of}
 use Rattle.rule_term.proofs.NodesLemmas.{size_of-drop}
 use Rattle.rule_term.proofs.ReadyLemmas.{some_node}
 use Rattle.rule_term.proofs.ReplaceSteps.{obeys-at, obeys-drop, size_of-at}

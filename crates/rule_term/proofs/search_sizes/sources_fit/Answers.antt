@@ -1,9 +1,9 @@
 use Rattle.std.proofs.Common.{◌≡◌, refl, ◌∙◌, ◌+◌, ◌&&◌, sym, ap, true, false, [], ◌∷◌, drop, length, map, arith, rules}
 use Rattle.std.proofs.lemmas.List.{length-map}
 use Rattle.std.specs.Cmp.Lexicographic.{pointwise}
-use Rattle.op_eval.specs.Calls.{size_at}
+use Rattle.op_eval.specs.Calls.{same_width, size_at}
 use Rattle.rule_term.specs.Terms.{Nil, terms_of}
-use Rattle.rule_term.specs.Typings.{first_of, roots, same_width, size_of}
+use Rattle.rule_term.specs.Typings.{first_of, roots, size_of}
 use Rattle.rule_term.proofs.NodesLemmas.{size_of-drop}
 use Rattle.rule_term.proofs.ReadyLemmas.{some_node}
 use Rattle.rule_term.proofs.ReplaceSteps.{first_of-drop, other_count, source_step}

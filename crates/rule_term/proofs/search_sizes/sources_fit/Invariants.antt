@@ -1,9 +1,9 @@
 -- the sources before the place have their sizes
 use Rattle.std.proofs.Common.{◌≡◌, ◌+◌, drop, length, map}
 use Rattle.std.specs.Cmp.Lexicographic.{pointwise}
-use Rattle.op_eval.specs.Calls.{size_at}
+use Rattle.op_eval.specs.Calls.{same_width, size_at}
 use Rattle.rule_term.specs.Terms.{terms_of}
-use Rattle.rule_term.specs.Typings.{roots, same_width, size_of}
+use Rattle.rule_term.specs.Typings.{roots, size_of}
 use Rattle.rule_term.proofs.search_sizes.sources_fit.Given as goal
 
 abbrev pub invariant-loop-at : goal.invariant-loop-at

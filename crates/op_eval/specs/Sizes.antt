@@ -1,14 +1,14 @@
 -- Bit sizes that are the same by their number of bits are equal, and sizes that fit an opcode are those of a call of it.
-use Rattle.std.specs.Prelude.{◌≡◌, refl, true, List, [], ◌∷◌, replicate, ℕ, zero, suc}
-use Rattle.std.proofs.Common.{◌∙◌, ap}
+use Rattle.std.specs.Prelude.{◌≡◌, ◌&&◌, refl, true, List, [], ◌∷◌, replicate, ℕ, zero, suc}
+use Rattle.std.proofs.Common.{◌∙◌, ap, subst}
 use Rattle.std.proofs.lemmas.Bool.{and_parts, and_from, false≢true}
 use Rattle.std.specs.List.{list_all}
 use Rattle.std.specs.Cmp.Lexicographic.{pointwise}
 use Rattle.nir_ops.specs.declared.op.Op.{Op}
 use Rattle.nir_ops.specs.declared.width.Width.{Width}
 use Rattle.nir_ops.specs.declared.width.Width.TheVariants.{W1, W8, W16, W32, W64}
-use Rattle.op_eval.specs.Calls.{Fits}
-use Rattle.rule_term.specs.Typings.{same_width, sizes_fit}
+use Rattle.op_eval.specs.Calls.{Fits, result_width, same_width, sizes_fit, source_widths, unsized_width}
+use Rattle.nir_ops.specs.Opcodes.{op_allows}
 
 pub same_width-refl : (a : Width) → same_width a a ≡ true
 same_width-refl W1 = refl
@@ -48,3 +48,15 @@ Fits-from_sizes_fit op dst widths h =
     let outer = and_parts _ _ h in
     let inner = and_parts _ _ outer.0 in
     record { allowed = inner.0; result = same_width-same _ _ inner.1; sources = same_widths-same _ _ outer.1 }
+
+pub same_width-from_equal : (a b : Width) → a ≡ b → same_width a b ≡ true
+same_width-from_equal a b same = subst (λ w. same_width a w ≡ true) same (same_width-refl a)
+
+-- and sizes that fit by the record pass the test
+pub sizes_fit-from_Fits : (op : Op) (dst : Width) (widths : List Width) → Fits op dst widths → sizes_fit op dst widths ≡ true
+unfolding sizes_fit
+sizes_fit-from_Fits op dst widths fits =
+    let free : Width = unsized_width op dst widths in
+    and_from (op_allows op free && same_width (result_width op free) dst) (pointwise same_width (source_widths op free) widths)
+    (and_from (op_allows op free) (same_width (result_width op free) dst) fits.allowed (same_width-from_equal (result_width op free) dst fits.result))
+    (subst (λ list. pointwise same_width (source_widths op free) list ≡ true) fits.sources (same_widths-refl (source_widths op free)))
