@@ -8,6 +8,8 @@ pub mod PathLemmas
 pub mod WalkLemmas
 pub mod VisitLemmas
 pub mod PhiLemmas
+pub mod NameLemmas
+pub mod TableLemmas
 pub mod RoundLemmas
 pub mod BlockLemmas
 pub mod ListLemmas

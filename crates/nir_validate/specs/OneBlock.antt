@@ -2,7 +2,7 @@
 use Rattle.std.specs.Prelude.{◌≡◌, ◌↔◌, refl, ℕ, zero, suc, Bool, true, false, List, [], ◌∷◌, ◌++◌, map, Option, Some, None, slice_get}
 use Rattle.std.specs.List.{AllByRecursion, list_all}
 use Rattle.std.proofs.Common.{sym, ◌∙◌, ap, subst}
-use Rattle.std.proofs.lemmas.Bool.{true≢false}
+use Rattle.std.proofs.lemmas.Bool.{and_from, and_parts, true≢false}
 use Rattle.std.proofs.lemmas.Option.{none-some, same_Some}
 use Rattle.nir_ir.specs.declared.ids.ValueId.{ValueId}
 use Rattle.nir_ir.specs.declared.instr.Instr.{Instr}
@@ -15,7 +15,7 @@ use Rattle.nir_ir.specs.Items.{Item, BlockHead, PhiItem, InstrItem, JumpItem, bl
 use Rattle.nir_ir.specs.Nodes.{Nil, BlockThen}
 use Rattle.nir_ir.specs.Shader.{Shader}
 use Rattle.nir_validate.specs.Edges.{Edge, Set, meet, no_values, set_after, set_after_instrs, set_after_phis}
-use Rattle.nir_validate.specs.Fitting.{both, both_hold, kept_from_fits}
+use Rattle.nir_validate.specs.Fitting.{kept_from_fits}
 use Rattle.nir_validate.specs.Placing.{order_faults}
 use Rattle.nir_validate.specs.Rules.{Kinds, Spot, all_misplaced, are_uses_defined, condition_fits, is_declared, kinds_fit, may_be_left, may_stand, named, names_each_once, predecessors, sources_match, spots, swizzles_fit}
 use Rattle.nir_validate.specs.Typed.{InstrFits, ItemFits}
@@ -77,13 +77,13 @@ visits_kept at (visit ∷ list) h = (
 nothing_told : (kept : Bool) (rule item : ℕ) → kept ≡ true → unless kept rule item ≡ []
 nothing_told kept rule item h = ap (λ k. unless k rule item) h
 
-visit_told : (visit : Visit) (at : ℕ) → VisitKept visit → visit_faults visit at ≡ []
+pub visit_told : (visit : Visit) (at : ℕ) → VisitKept visit → visit_faults visit at ≡ []
 visit_told visit at kept =
     ap (λ t. t ++ unless (sources_match visit) 6 at ++ unless (are_uses_defined visit) 7 at) (nothing_told (may_be_left visit) 5 at kept.left)
     ∙ ap (λ t. t ++ unless (are_uses_defined visit) 7 at) (nothing_told (sources_match visit) 6 at kept.sources)
     ∙ nothing_told (are_uses_defined visit) 7 at kept.uses
 
-spot_told : (kinds : Kinds) (s : Shader) (spot : Spot) (at : ℕ) → SpotKept kinds s spot → spot_faults kinds s spot at ≡ []
+pub spot_told : (kinds : Kinds) (s : Shader) (spot : Spot) (at : ℕ) → SpotKept kinds s spot → spot_faults kinds s spot at ≡ []
 spot_told kinds s spot at kept =
     ap (λ t. t ++ unless (is_declared kinds s spot.item) 2 at ++ unless (may_stand spot) 4 at ++ unless (swizzles_fit kinds spot.item) 8 at ++ unless (condition_fits kinds spot.item) 9 at) (nothing_told (kinds_fit kinds spot.item) 1 at kept.kinds_fit)
     ∙ ap (λ t. t ++ unless (may_stand spot) 4 at ++ unless (swizzles_fit kinds spot.item) 8 at ++ unless (condition_fits kinds spot.item) 9 at) (nothing_told (is_declared kinds s spot.item) 2 at kept.declared)
@@ -91,19 +91,19 @@ spot_told kinds s spot at kept =
     ∙ ap (λ t. t ++ unless (condition_fits kinds spot.item) 9 at) (nothing_told (swizzles_fit kinds spot.item) 8 at kept.names)
     ∙ nothing_told (condition_fits kinds spot.item) 9 at kept.condition
 
-none_told : {A : Type 0} (faults : A → ℕ → List Fault) (P : A → Type 0) → ((a : A) (at : ℕ) → P a → faults a at ≡ []) → (at : ℕ) (list : List A) → AllByRecursion P list → at_each faults at list ≡ []
+pub none_told : {A : Type 0} (faults : A → ℕ → List Fault) (P : A → Type 0) → ((a : A) (at : ℕ) → P a → faults a at ≡ []) → (at : ℕ) (list : List A) → AllByRecursion P list → at_each faults at list ≡ []
 none_told faults P h at [] all = refl
 none_told faults P h at (a ∷ list) all = ap (λ t. t ++ at_each faults (suc at) list) (h a at all.0) ∙ none_told faults P h (suc at) list all.1
 
 -- what an instruction reads
 pub reads_in : (set : Set) (list : List ValueId) → list_all (λ id. set id.0) list ≡ true → (id : ValueId) (at : ℕ) → slice_get list at ≡ Some id → set id.0 ≡ true
 reads_in set [] h id at is = absurd (none-some id is)
-reads_in set (first ∷ list) h id zero is = subst (λ (v : ValueId). set v.0 ≡ true) (same_Some first id is) (both (set first.0) (list_all (λ v. set v.0) list) h).0
-reads_in set (first ∷ list) h id (suc at) is = reads_in set list (both (set first.0) (list_all (λ v. set v.0) list) h).1 id at is
+reads_in set (first ∷ list) h id zero is = subst (λ (v : ValueId). set v.0 ≡ true) (same_Some first id is) (and_parts (set first.0) (list_all (λ v. set v.0) list) h).0
+reads_in set (first ∷ list) h id (suc at) is = reads_in set list (and_parts (set first.0) (list_all (λ v. set v.0) list) h).1 id at is
 
 all_read : (set : Set) (list : List ValueId) → ((id : ValueId) (at : ℕ) → slice_get list at ≡ Some id → set id.0 ≡ true) → list_all (λ id. set id.0) list ≡ true
 all_read set [] h = refl
-all_read set (first ∷ list) h = both_hold (set first.0) (list_all (λ v. set v.0) list) (h first 0 refl) (all_read set list (λ id at is. h id (suc at) is))
+all_read set (first ∷ list) h = and_from (set first.0) (list_all (λ v. set v.0) list) (h first 0 refl) (all_read set list (λ id at is. h id (suc at) is))
 
 instrs_valid : (s : Shader) (edges : List Edge) (set : Set) (instrs : List Instr) → AllByRecursion VisitKept (visit_instrs edges set instrs) → AllByRecursion (InstrFits s) instrs → InstrsValid s set instrs
 instrs_valid s edges set [] kept fits = tt

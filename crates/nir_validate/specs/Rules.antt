@@ -6,9 +6,8 @@ use Rattle.std.specs.Cmp.Lexicographic.{pointwise}
 use Rattle.nir_ops.specs.declared.op.Op.{Op}
 use Rattle.nir_ops.specs.declared.width.Width.{Width}
 use Rattle.nir_ops.specs.declared.width.Width.TheVariants.{W1, W32}
-use Rattle.nir_ops.specs.Opcodes.{op_info, op_allows}
-use Rattle.nir_ops.specs.Width.{width_bits}
-use Rattle.op_eval.specs.Calls.{unsized_width, source_widths, result_width}
+use Rattle.nir_ops.specs.Opcodes.{op_info}
+use Rattle.op_eval.specs.Calls.{same_width, sizes_fit}
 use Rattle.op_eval.specs.Views.{count_at}
 use Rattle.nir_ir.specs.declared.ids.ValueId.{ValueId}
 use Rattle.nir_ir.specs.declared.instr.Instr.{Instr}
@@ -22,9 +21,6 @@ use Rattle.nir_ir.specs.Nodes.{Nodes, Nil, BlockThen, IfThen, LoopThen}
 use Rattle.nir_ir.specs.Shader.{Shader}
 use Rattle.nir_validate.specs.Edges.{Set, Edge}
 use Rattle.nir_validate.specs.Walk.{Visit, is_empty}
-
-abbrev pub same_width : Width → Width → Bool
-same_width a b = nat_eq (width_bits a) (width_bits b)
 
 abbrev pub same_kind : Kind → Kind → Bool
 same_kind a b = same_width a.width b.width && nat_eq a.count b.count
@@ -57,13 +53,7 @@ condition_kind = record { width = W1; count = 1 }
 abbrev pub is_storable : Kind → Bool
 is_storable kind = not (same_width kind.width W1)
 
--- bit sizes of a result and of sources fit the opcode, and so do numbers of components
-unfoldable pub widths_fit : Op → Width → List Width → Bool
-widths_fit op width widths =
-    op_allows op (unsized_width op width widths)
-    && same_width (result_width op (unsized_width op width widths)) width
-    && pointwise same_width (source_widths op (unsized_width op width widths)) widths
-
+-- numbers of components of a result and of sources fit the opcode
 unfoldable pub counts_fit : Op → ℕ → List ℕ → Bool
 counts_fit op count counts =
     nat_eq (count_at (op_info op).out_count count) count
@@ -72,7 +62,7 @@ counts_fit op count counts =
 -- V1: widths and counts fit
 abbrev pub instr_kinds_fit : Kinds → Instr → Bool
 instr_kinds_fit kinds (Alu value op kind srcs) =
-    widths_fit op kind.width (map (λ src. width_in kinds src.value) srcs) && counts_fit op kind.count (map (λ src. length src.swizzle) srcs)
+    sizes_fit op kind.width (map (λ src. width_in kinds src.value) srcs) && counts_fit op kind.count (map (λ src. length src.swizzle) srcs)
 instr_kinds_fit kinds (Const value kind comps) = true
 instr_kinds_fit kinds (Undef value kind) = true
 instr_kinds_fit kinds (Input value kind slot) = true

@@ -3,7 +3,7 @@ use Rattle.std.specs.Prelude.{◌≡◌, refl, ℕ, List, [], ◌∷◌, map, Op
 use Rattle.nir_ops.specs.declared.op.Op.TheVariants.{Ineg}
 use Rattle.nir_ops.specs.declared.width.Width.TheVariants.{W1, W8, W32}
 use Rattle.nir_ops.specs.Opcodes.{op_allows, op_info, row_of}
-use Rattle.op_eval.specs.Calls.{result_width, source_widths, unsized_width}
+use Rattle.op_eval.specs.Calls.{result_width, sizes_fit, source_widths, unsized_width}
 use Rattle.nir_ir.specs.declared.ids.BlockId.{BlockId}
 use Rattle.nir_ir.specs.declared.ids.ValueId.{ValueId}
 use Rattle.nir_ir.specs.declared.instr.Instr.{Instr}
@@ -17,7 +17,7 @@ use Rattle.nir_ir.specs.declared.node.PhiSource.{PhiSource}
 use Rattle.nir_ir.specs.Nodes.{Nodes, Nil, BlockThen, IfThen, LoopThen}
 use Rattle.nir_ir.specs.Shader.{Shader}
 use Rattle.nir_validate.specs.Edges.{Edge}
-use Rattle.nir_validate.specs.Rules.{counts_fit, widths_fit}
+use Rattle.nir_validate.specs.Rules.{counts_fit}
 use Rattle.nir_validate.specs.Valid.{first_invalid}
 use Rattle.nir_validate.specs.Walk.{entry, walk}
 
@@ -100,7 +100,7 @@ if_at_end = refl
 pub leaks_out : first_invalid (given (
     if_then 0 1 (alone 1 [] (negated 2 0 ∷ []) None) (alone 2 [] [] None)
     (alone 3 [] (output 0 2 ∷ []) None))) ≡ Some (record { rule = 7; item = 8 })
-unfolding first_invalid widths_fit counts_fit op_info row_of op_allows unsized_width source_widths result_width
+unfolding first_invalid sizes_fit counts_fit op_info row_of op_allows unsized_width source_widths result_width
 leaks_out = refl
 
 -- the same use where the other list breaks out of a loop
@@ -108,7 +108,7 @@ pub stays_in : first_invalid (given (
     loop_then 0 (BlockThen (block_of 1 [] [] None) (
     if_then 0 1 (alone 2 [] (negated 2 0 ∷ []) None) (alone 3 [] [] (Some Break))
     (alone 4 [] (output 0 2 ∷ []) None))) (alone 5 [] [] None))) ≡ None
-unfolding first_invalid widths_fit counts_fit op_info row_of op_allows unsized_width source_widths result_width
+unfolding first_invalid sizes_fit counts_fit op_info row_of op_allows unsized_width source_widths result_width
 stays_in = refl
 
 -- the edges out of an if of which the first list falls, and out of a loop with two breaks, a continue and a last block that falls
@@ -139,7 +139,7 @@ pub phis_everywhere : first_invalid (given (
     loop_then 0 (BlockThen (block_of 4 (phi 5 (from 3 4 ∷ from 6 6 ∷ []) ∷ []) (negated 6 5 ∷ []) None) (
     if_then 1 1 (alone 5 [] [] (Some Break)) (alone 6 [] [] None) (alone 7 [] [] None)))
     (alone 8 (phi 7 (from 5 6 ∷ []) ∷ []) (output 0 7 ∷ []) None))))) ≡ Some (record { rule = 6; item = 12 })
-unfolding first_invalid widths_fit counts_fit op_info row_of op_allows unsized_width source_widths result_width
+unfolding first_invalid sizes_fit counts_fit op_info row_of op_allows unsized_width source_widths result_width
 phis_everywhere = refl
 
 -- the same where the loop's phi names the block by which its body falls
@@ -149,7 +149,7 @@ pub phis_right : first_invalid (given (
     loop_then 0 (BlockThen (block_of 4 (phi 5 (from 3 4 ∷ from 7 6 ∷ []) ∷ []) (negated 6 5 ∷ []) None) (
     if_then 1 1 (alone 5 [] [] (Some Break)) (alone 6 [] [] None) (alone 7 [] [] None)))
     (alone 8 (phi 7 (from 5 6 ∷ []) ∷ []) (output 0 7 ∷ []) None))))) ≡ None
-unfolding first_invalid widths_fit counts_fit op_info row_of op_allows unsized_width source_widths result_width
+unfolding first_invalid sizes_fit counts_fit op_info row_of op_allows unsized_width source_widths result_width
 phis_right = refl
 
 -- behind a loop that only continues nothing is reached: an empty last block may stand there, one with an instruction may not

@@ -1,6 +1,7 @@
 //! Whether a shader is valid, or the first rule that it breaks and where.
 #![tactic(auto)]
 
+mod edge_table;
 mod fault;
 mod first;
 mod kinds;

@@ -1,17 +1,22 @@
-//! The tests of phis against the edges of their block. For each phi they take time in proportion to the
-//! number of its sources multiplied by that of the edges.
+//! The tests of phis against the edges of their block. Few edges are compared with each source one by one, and
+//! for more there is a table (`edge_table.rt`): so for each phi the tests take time in proportion to the
+//! number of its sources, after one pass over the edges. Where there is no memory for a table, edges are
+//! compared one by one as well.
 
-ghost use Rattle.std.specs.Prelude.{◌≡◌, ◌+◌, ◌≤◌, ◌<◌, ◌^◌, length, map, count_by, nat_eq, is_some};
+ghost use Rattle.std.specs.Prelude.{◌≡◌, ◌+◌, ◌≤◌, ◌<◌, ◌^◌, length, map, count_by, nat_eq, is_some, IfSome};
 ghost use Rattle.std.specs.List.{list_all, list_any};
 ghost use Rattle.nir_validate.specs.Least.{sooner};
-ghost use Rattle.nir_validate.specs.Predecessors.{block_of, comes_from_block, names_once, is_named_once, names_some, is_defined_by};
+ghost use Rattle.nir_validate.specs.Predecessors.{Tells, block_of, comes_from_block, names_once, is_named_once, names_some, is_defined_by};
 ghost use Rattle.nir_validate.specs.Rules.{is_defined_along, named, names_each_once, predecessors};
 ghost use Rattle.nir_validate.specs.Steps.{AreIn, edges_of, found_phi, found_phis};
 
+use crate::edge_table::{EdgeTable, are_defined_in, sources_match_in, table_of};
 use crate::round::Round;
 use crate::scope::Scope;
 use crate::way::Way;
+use nir_host::OutOfMemory;
 use nir_ir::{BlockId, Phi, PhiSource};
+use std::alloc::Global;
 
 /// Whether an edge comes from the block.
 fn comes_from(way: Way, block: BlockId) -> bool
@@ -154,15 +159,55 @@ impl Round {
         self.report(defined, 7, item);
     }
 
+    /// The same where the edges are in a table.
+    fn phi_in(&mut self, alloc: Global, table: &EdgeTable, phi: &Phi, ways: &[Way], item: u64)
+        requires tells { Tells table.now.entries ways.now }
+        requires within { AreIn self.old.scope ways.now }
+        ensures { self.new ≡ record self.old { found = sooner self.old.found (found_phi item (edges_of self.old.scope ways.now) phi.now) } }
+    {
+        let sources = phi.sources.as_slice();
+        match sources_match_in(alloc, table, sources) {
+            Ok(matched) => {
+                let defined = are_defined_in(&self.scope, table, sources);
+                self.report(matched, 6, item);
+                self.report(defined, 7, item);
+            }
+            Err(OutOfMemory) => self.phi(phi, ways, item),
+        }
+    }
+
+    /// The same where the edges may be in a table.
+    fn phi_by(
+        &mut self,
+        alloc: Global,
+        table: &Option<EdgeTable>,
+        phi: &Phi,
+        ways: &[Way],
+        item: u64,
+    )
+        requires tells { IfSome table.now (λ table. Tells table.entries ways.now) }
+        requires within { AreIn self.old.scope ways.now }
+        ensures { self.new ≡ record self.old { found = sooner self.old.found (found_phi item (edges_of self.old.scope ways.now) phi.now) } }
+    {
+        match table {
+            Some(table) => self.phi_in(alloc, table, phi, ways, item),
+            None => self.phi(phi, ways, item),
+        }
+    }
+
     /// Looks at the phis of a block with these edges. `first` is the item of the first of them.
-    pub(crate) fn phis(&mut self, phis: &[Phi], ways: &[Way], first: u64)
+    pub(crate) fn phis(&mut self, alloc: Global, phis: &[Phi], ways: &[Way], first: u64)
         requires within { AreIn self.old.scope ways.now }
         requires few { first + length phis.now < 2 ^ 64 }
         ensures { self.new ≡ record self.old { found = sooner self.old.found (found_phis first (edges_of self.old.scope ways.now) phis.now) } }
     {
+        if phis.is_empty() {
+            return;
+        }
+        let table = table_of(alloc, ways);
         let mut item = first;
         for phi in phis {
-            self.phi(phi, ways, item);
+            self.phi_by(alloc, &table, phi, ways, item);
             item += 1;
         }
     }

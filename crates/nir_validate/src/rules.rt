@@ -3,10 +3,10 @@
 ghost use Rattle.std.specs.Prelude.{◌≡◌, length, map, nat_eq, nat_lt};
 ghost use Rattle.std.specs.List.{list_all};
 ghost use Rattle.std.specs.Cmp.Lexicographic.{pointwise};
-ghost use Rattle.op_eval.specs.Calls.{size_at, unsized_of};
+ghost use Rattle.op_eval.specs.Calls.{same_width, size_at, sizes_fit, unsized_of};
 ghost use Rattle.op_eval.specs.Views.{count_at};
 ghost use Rattle.nir_validate.specs.KindTable.{kinds_in};
-ghost use Rattle.nir_validate.specs.Rules.{condition_kind, counts_fit, declares, has_kind, has_kind_that, instr_is_declared, instr_kinds_fit, instr_names_components, is_storable, names_components, offset_kind, same_kind, same_width, widths_fit, width_in, count_in};
+ghost use Rattle.nir_validate.specs.Rules.{condition_kind, counts_fit, declares, has_kind, has_kind_that, instr_is_declared, instr_kinds_fit, instr_names_components, is_storable, names_components, offset_kind, same_kind, width_in, count_in};
 
 use crate::kinds::kind_of;
 use nir_ir::{Instr, Kind, Phi, PhiSource, Shader, Src, ValueId};
@@ -143,9 +143,9 @@ fn count_at(fixed: u8, count: u8) -> u8
 }
 
 /// Whether the bit sizes of an instruction with an opcode fit it.
-#[tactic(auto, unfolding(op_eval::specs::Calls::result_width, op_eval::specs::Calls::source_widths, op_eval::specs::Calls::unsized_width, crate::specs::Rules::widths_fit))]
-fn widths_fit(kinds: &[Option<Kind>], op: Op, width: Width, srcs: &[Src]) -> bool
-    ensures { result ≡ widths_fit op width (map (λ src. width_in (kinds_in kinds.now) src.value) srcs.now) }
+#[tactic(auto, unfolding(op_eval::specs::Calls::result_width, op_eval::specs::Calls::source_widths, op_eval::specs::Calls::unsized_width, op_eval::specs::Calls::sizes_fit))]
+fn sizes_fit(kinds: &[Option<Kind>], op: Op, width: Width, srcs: &[Src]) -> bool
+    ensures { result ≡ sizes_fit op width (map (λ src. width_in (kinds_in kinds.now) src.value) srcs.now) }
 {
     let row = info(op);
     let free = unsized_of(kinds, row.out.size, width, srcs);
@@ -242,7 +242,7 @@ pub(crate) fn instr_kinds_fit(kinds: &[Option<Kind>], instr: &Instr) -> bool
 {
     match instr {
         Instr::Alu { op, kind, srcs, .. } => {
-            if !widths_fit(kinds, *op, kind.width, srcs.as_slice()) {
+            if !sizes_fit(kinds, *op, kind.width, srcs.as_slice()) {
                 return false;
             }
             counts_fit(*op, kind.count, srcs.as_slice())
