@@ -9,7 +9,7 @@ use Rattle.nir_ops.specs.declared.width.Width.TheVariants.{W1, W8, W16, W32, W64
 use Rattle.nir_ops.specs.Width.{width_bits}
 use Rattle.nir_ir.specs.declared.kind.Kind.{Kind}
 use Rattle.nir_ir.specs.Shader as ir
-use Rattle.nir_mean.specs.declared.words.EvalWords.{EvalWords}
+use Rattle.eval_words.specs.declared.words.EvalWords.{EvalWords}
 use Rattle.nir_mean.specs.EvalAnswers.{comps_fit, inputs_fit, words_fit}
 use Rattle.nir_mean.specs.Known.{HasKind}
 use Rattle.nir_mean.specs.Same.{InputsFit}

@@ -7,6 +7,5 @@ pub mod FrameLemmas
 pub mod StepLemmas
 pub mod DeclareLemmas
 pub mod StartLemmas
-pub mod WordLemmas
 pub mod TextLemmas
 pub mod FitLemmas

@@ -1,17 +1,14 @@
 -- What each status of running a shader says of the words and of the text, and which line it writes.
-use Rattle.std.specs.Prelude.{◌≡◌, ◌^◌, ℕ, Bool, true, false, ◌&&◌, ◌++◌, List, [], ◌∷◌, length, codes, decimal, nat_eq, nat_lt, ⊤, ◌⊎◌}
+use Rattle.std.specs.Prelude.{◌≡◌, ◌^◌, ℕ, Bool, true, false, ◌&&◌, ◌++◌, List, [], ◌∷◌, length, codes, nat_eq, nat_lt, ⊤, ◌⊎◌}
 use Rattle.std.specs.List.{list_all}
-use Rattle.nir_host.specs.declared.fault.Which.{Which}
-use Rattle.nir_host.specs.declared.fault.Which.TheVariants.{Rules, Shader}
 use Rattle.nir_ir.specs.declared.kind.Kind.{Kind}
 use Rattle.nir_ir.specs.Shader as ir
 use Rattle.nir_ops.specs.Width.{width_bits}
-use Rattle.nir_text.specs.declared.fault.TextFault.{TextFault}
+use Rattle.eval_words.specs.declared.words.EvalWords.{EvalWords}
 use Rattle.nir_mean.specs.declared.status.Status.{Status}
 use Rattle.nir_mean.specs.declared.status.Status.TheVariants.{Usage, ReadFault, WriteFault, ShaderSyntax, ShaderInvalid, Misfit, OutOfMemory}
 use Rattle.nir_mean.specs.declared.status.Status.TheVariants as status
-use Rattle.nir_mean.specs.declared.words.EvalWords.{EvalWords}
-use Rattle.nir_mean.specs.Faults.{fault_text}
+use Rattle.nir_mean.specs.ShaderLines.{invalid_line, syntax_line, which_text}
 use Rattle.nir_mean.specs.ShaderText.{Answer, Sound, Faulty, Invalid}
 use Rattle.nir_mean.specs.ShaderText as answer
 
@@ -66,18 +63,6 @@ number_of (ShaderInvalid rule item) = 8
 number_of (status.TooLong which) = 9
 number_of OutOfMemory = 10
 number_of Misfit = 11
-
--- a text that is not in the grammar
-abbrev pub syntax_line : TextFault → List ℕ
-syntax_line fault = codes "shader: " ++ fault_text fault ++ codes "\n"
-
--- the rule that is broken, and the item that breaks it
-abbrev pub invalid_line : ℕ → ℕ → List ℕ
-invalid_line rule item = codes "shader: V" ++ decimal rule ++ codes " at item " ++ decimal item ++ codes "\n"
-
-abbrev pub which_text : Which → List ℕ
-which_text Rules = codes "rules"
-which_text Shader = codes "shader"
 
 -- the line of a status, or nothing
 abbrev pub line_of : Status → List ℕ

@@ -7,6 +7,7 @@ pub mod Values
 pub mod Worked
 pub mod ViewLaws
 pub mod Reads
+pub mod Renamed
 pub mod OneBlock
 pub mod Sound
 pub mod Table
@@ -20,6 +21,6 @@ pub mod Block
 pub mod Replaced
 pub mod Faults
 pub mod ShaderText
-pub mod EvalWords
+pub mod ShaderLines
 pub mod OutcomeText
 pub mod EvalAnswers

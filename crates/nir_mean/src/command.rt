@@ -1,26 +1,27 @@
 //! The command that runs a shader and tells its outcome.
 
 ghost use Rattle.std.specs.Prelude.{◌≡◌, ℕ, ◌↔◌, ◌≢◌, ◌⊎◌, ◌++◌, IfOk, List, Some, None, false, true};
+ghost use Rattle.eval_words.specs.declared.words.EvalWords.{EvalWords as Given};
+ghost use Rattle.eval_words.specs.EvalWords.{eval_words};
 ghost use Rattle.nir_host.specs.Faults.{Rose};
 ghost use Rattle.nir_host.specs.Told.{Gains};
 ghost use Rattle.nir_host.specs.Whole.{TakesFront};
 ghost use Rattle.nir_ir.specs.Shader.{Shader as Whole};
-ghost use Rattle.nir_mean.specs.declared.words.EvalWords.{EvalWords as Given};
 ghost use Rattle.nir_text.specs.declared.fault.TextFault.{TextFault};
 ghost use Rattle.nir_validate.specs.Valid.{Valid};
 ghost use Rattle.nir_mean.specs.EvalAnswers.{EndsWell, has_plain_line, IsGiven, IsToldAs, line_of, Says, words_fit};
 ghost use Rattle.nir_mean.specs.Faults.{is_of_text};
-ghost use Rattle.nir_mean.specs.EvalWords.{eval_words};
 ghost use Rattle.nir_mean.specs.ShaderText.{answer_of, ReadsToEnd, Sound};
 ghost use Rattle.nir_mean.specs.Outcome.{outcome};
 ghost use Rattle.nir_mean.specs.OutcomeText.{outcome_text};
 
 use crate::evaluation::evaluate;
 use crate::fits::{hold_bytes, words_fit};
-use crate::lines::{invalid_line, outcome_text, plain_line, syntax_line};
+use crate::lines::{outcome_text, plain_line};
+use crate::shader_lines::{invalid_line, syntax_line};
 use crate::shader_text::{ShaderRefusal, read_valid};
 use crate::status::Status;
-use crate::words::{EvalWords, eval_words, have_reading};
+use eval_words::{EvalWords, eval_words, have_reading};
 use nir_host::{Bytes, OutOfMemory, Sink, Source, Which, write_all};
 use nir_ir::Shader;
 use nir_text::TextFault;
@@ -32,8 +33,8 @@ use std::alloc::Global;
 /// The order is fixed: the words; the shader read to its end; its text; its validity; whether the words fit it; the
 /// run; the writing. The words are `--turns=N` once, `--input=V,V` once for each input slot and `--buffer=HEX` once
 /// for each buffer, in any order. Nothing goes to `out` before the text is whole, and want of memory may end the call at any
-/// point. The line of the status goes to `notes`, whose faults change nothing. The time grows with the turns of nested
-/// loops multiplied.
+/// point after the words. The line of the status goes to `notes`, whose faults change nothing. The time grows with the
+/// turns of nested loops multiplied.
 pub fn run_shader<S: Source, K: Sink, N: Sink>(
     alloc: Global,
     words: &[Bytes],

@@ -5,7 +5,7 @@ ghost use Rattle.std.specs.List.{AllByRecursion, list_all};
 ghost use Rattle.nir_ops.specs.Width.{width_bits};
 ghost use Rattle.nir_mean.specs.EvalAnswers.{comps_fit, inputs_fit, words_fit};
 
-use crate::words::EvalWords;
+use eval_words::EvalWords;
 use nir_host::Bytes;
 use nir_ir::{Comps, Kind, Shader};
 use nir_ops::Width;

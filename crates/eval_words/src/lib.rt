@@ -1,0 +1,7 @@
+//! The words with which a shader is run: how often its loops may go back, its inputs and its buffers.
+#![tactic(auto)]
+
+mod numbers;
+mod words;
+
+pub use words::{EvalWords, Said, eval_words, have_reading};
