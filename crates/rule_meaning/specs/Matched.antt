@@ -1,4 +1,6 @@
 -- What a match of a rule at 8 bits says: the variables are bound to views of values in the set, what they have there are words that meet the conditions, and the search side has the value at which the rule matches.
+use Rattle.op_eval.specs.Calls.{same_width}
+use Rattle.op_eval.specs.Sizes.{same_width-same}
 use Rattle.std.specs.Prelude.{◌≡◌, refl, ◌<◌, ◌≤◌, ◌+◌, ℕ, zero, suc, true, Option, Some, None, List, [], ◌∷◌, length, replicate, slice_get, slice_index}
 use Rattle.std.proofs.Common.{sym, ◌∙◌, ap, subst, arith}
 use Rattle.std.proofs.lemmas.Bool.{and_parts}
@@ -20,9 +22,8 @@ use Rattle.rule_term.specs.Formed.{IsFormed}
 use Rattle.rule_term.specs.Holds.{are_met, are_words, is_met, is_word, values_of}
 use Rattle.rule_term.specs.Pieces.{terms_count, vars_of}
 use Rattle.rule_term.specs.Rule.{Rule}
-use Rattle.rule_term.specs.Sizes.{same_width-same}
 use Rattle.rule_term.specs.Terms.{Terms, Nil, VarThen, LitThen, AppThen}
-use Rattle.rule_term.specs.Typings.{occurrences, same_width, search_part, size_of}
+use Rattle.rule_term.specs.Typings.{occurrences, search_part, size_of}
 use Rattle.nir_search.specs.declared.hit.Bind.{Bind}
 use Rattle.nir_search.specs.Match.{all_bound, is_typed, match_of, matches, met, root_view}
 use Rattle.nir_search.specs.Met.{is_typed_eight, length-met}

@@ -1,4 +1,5 @@
 -- What a match along terms says: which variables it binds, and that the terms have the values of the views that they were matched with.
+use Rattle.op_eval.specs.Sizes.{same_width-same}
 use Rattle.std.specs.Prelude.{◌≡◌, refl, ◌<◌, ◌≤◌, ◌-◌, ◌^◌, ◌%◌, ◌&&◌, ℕ, zero, suc, ℤ, Bool, true, Option, Some, None, List, [], ◌∷◌, ◌++◌, map, length, replicate, nat_eq, if◌then◌else◌, drop, is_some}
 use Rattle.std.proofs.Common.{sym, ◌∙◌, ap, subst, arith}
 use Rattle.std.proofs.lemmas.Bool.{and_parts, and_from, eqb-true, lt-ltb}
@@ -14,7 +15,7 @@ use Rattle.nir_ops.specs.declared.width.Width.{Width}
 use Rattle.nir_ops.specs.declared.width.Width.TheVariants.{W8}
 use Rattle.nir_ops.specs.Opcodes.{op_info}
 use Rattle.nir_ops.specs.Width.{width_bits}
-use Rattle.op_eval.specs.Calls.{unsized_width}
+use Rattle.op_eval.specs.Calls.{same_width, unsized_width}
 use Rattle.op_eval.specs.Meaning.{op_mean}
 use Rattle.op_eval.specs.Word.{residue}
 use Rattle.nir_ir.specs.Definitions.{alu_at, const_at, width_at}
@@ -30,9 +31,8 @@ use Rattle.rule_term.specs.EightBitLaws.{one_size}
 use Rattle.rule_term.specs.Formed.{literal_formed, may_stand, search_piece_formed}
 use Rattle.rule_term.specs.Holds.{is_met, is_word, meets_cond, values_of}
 use Rattle.rule_term.specs.Pieces.{LitPiece, pieces, terms_count, var_of, vars_of}
-use Rattle.rule_term.specs.Sizes.{same_width-same}
 use Rattle.rule_term.specs.Terms.{Terms, Nil, VarThen, LitThen, AppThen}
-use Rattle.rule_term.specs.Typings.{occurrences, roots, same_width, size_of}
+use Rattle.rule_term.specs.Typings.{occurrences, roots, size_of}
 use Rattle.nir_search.specs.declared.hit.Bind.{Bind}
 use Rattle.nir_search.specs.Match.{bind, bits_behind, bits_left, children, has_op, is_applied, is_commutative, is_literal, is_swapped, is_taken, matches, meets, met}
 use Rattle.nir_mean.specs.Known.{IsKnown}
