@@ -5,51 +5,16 @@ use Rattle.std.specs.List.Sorted.{IsNonDecreasingBy, IsStableByKey, ties}
 use Rattle.std.specs.Ordering.{is_lt, nat_cmp}
 use Rattle.std.proofs.Math.Path.{fun_ext}
 use Rattle.std.proofs.lemmas.Bool.Decides.{nat_tests}
-
--- the items of each number from a on, for n numbers
-abbrev pub groups : {X : Type 0} → (X → ℕ) → List X → ℕ → ℕ → List X
-groups key xs a n = flat_map (λ k. filter (λ x. eqb (key x) k) xs) (range_with_len a n)
-
-not_same : (m n : ℕ) → m < n → eqb m n ≡ false
-not_same m n h = grind (arith, nat_tests)
-
-not_same_above : (m n : ℕ) → n < m → eqb m n ≡ false
-not_same_above m n h = grind (arith, nat_tests)
-
-is_same : (m n : ℕ) → eqb m n ≡ true → m ≡ n
-is_same m n h = grind (arith, nat_tests)
-
-is_above : (m n : ℕ) → n ≤ m → eqb m n ≡ false → n < m
-is_above m n h e = grind (arith, nat_tests)
+use Rattle.nir_print.specs.BlockGroups.{groups, not_same_above, is_same, split, least_here, groups-nil}
 
 filter-none : {X : Type 0} (key : X → ℕ) (a : ℕ) (xs : List X) → AllByRecursion (λ x. a < key x) xs → filter (λ x. eqb (key x) a) xs ≡ []
 filter-none key a [] h = refl
 filter-none key a (x ∷ xs) h =
     ap (λ b. cond b (x ∷ filter (λ x. eqb (key x) a) xs) (filter (λ x. eqb (key x) a) xs)) (not_same_above (key x) a h.0) ∙ filter-none key a xs h.1
 
--- an item of a lower number is in none of the groups
-groups-below : {X : Type 0} (key : X → ℕ) (y : X) (xs : List X) (a n : ℕ) → key y < a → groups key (y ∷ xs) a n ≡ groups key xs a n
-groups-below key y xs a zero h = refl
-groups-below key y xs a (suc n) h =
-    ap (λ b. cond b (y ∷ filter (λ x. eqb (key x) a) xs) (filter (λ x. eqb (key x) a) xs) ++ groups key (y ∷ xs) (a + 1) n) (not_same (key y) a h)
-    ∙ ap (λ t. filter (λ x. eqb (key x) a) xs ++ t) (groups-below key y xs (a + 1) n (omega arith))
-
 above_all : {X : Type 0} (key : X → ℕ) (a b : ℕ) (xs : List X) → a < b → AllByRecursion (λ x. b ≤ key x) xs → AllByRecursion (λ x. a < key x) xs
 above_all key a b [] h all = tt
 above_all key a b (x ∷ xs) h all = (omega (arith, all.0), above_all key a b xs h all.1)
-
-split : (m a : ℕ) → a ≤ m → (m ≡ a) ⊎ (a < m)
-split m a low =
-    let cases : (b : Bool) → eqb m a ≡ b → (m ≡ a) ⊎ (a < m) = λ b. elim b as (λ v. eqb m a ≡ v → (m ≡ a) ⊎ (a < m)) [ true ↦ λ e. inl (is_same m a e) | false ↦ λ e. inr (is_above m a low e) ] in
-    cases (eqb m a) refl
-
-same_yes : (m a : ℕ) → m ≡ a → eqb m a ≡ true
-same_yes m a h = grind (arith, nat_tests)
-
-least_here : {X : Type 0} (key : X → ℕ) (y : X) (xs : List X) (a n : ℕ) → key y ≡ a → groups key (y ∷ xs) a (suc n) ≡ y ∷ groups key xs a (suc n)
-least_here key y xs a n same =
-    ap (λ b. cond b (y ∷ filter (λ x. eqb (key x) a) xs) (filter (λ x. eqb (key x) a) xs) ++ groups key (y ∷ xs) (a + 1) n) (same_yes (key y) a same)
-    ∙ ap (λ t. y ∷ filter (λ x. eqb (key x) a) xs ++ t) (groups-below key y xs (a + 1) n (omega arith))
 
 least_later : {X : Type 0} (key : X → ℕ) (y : X) (xs : List X) (a n : ℕ) → a < key y → AllByRecursion (λ x. key y ≤ key x) xs
     → groups key (y ∷ xs) (a + 1) n ≡ y ∷ groups key xs (a + 1) n → groups key (y ∷ xs) a (suc n) ≡ y ∷ groups key xs a (suc n)
@@ -68,10 +33,6 @@ groups-least key y xs a (suc n) low high all =
       | inl same ↦ least_here key y xs a n same
       | inr above ↦ least_later key y xs a n above all (groups-least key y xs (a + 1) n (omega arith) (omega arith) all)
     ]
-
-groups-nil : {X : Type 0} (key : X → ℕ) (a n : ℕ) → groups key [] a n ≡ []
-groups-nil key a zero = refl
-groups-nil key a (suc n) = groups-nil key (a + 1) n
 
 all_from_places : {X : Type 0} (P : X → Type 0) (xs : List X) → ((j : ℕ) (d : X) → j < length xs → P (get_or xs j d)) → AllByRecursion P xs
 all_from_places P [] h = tt

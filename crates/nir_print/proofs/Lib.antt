@@ -5,7 +5,6 @@ pub mod OrderedLemmas
 pub mod Lines
 pub mod BlockOrder
 pub mod SampleShaped
-pub mod EachOf
 pub mod Lexing
 pub mod Parts
 pub mod Spelled

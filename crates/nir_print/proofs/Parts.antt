@@ -2,8 +2,9 @@
 use Rattle.std.specs.Prelude.{◌≡◌, refl, ℕ, suc, zero, ◌^◌, ◌<◌, Bool, true, List, [], ◌∷◌, ◌++◌, map, get_or, pos, codes, decimal}
 use Rattle.std.specs.List.{AllByRecursion, flat_map, list_all}
 use Rattle.std.specs.Str.{bytes_eq}
-use Rattle.std.proofs.Common.{sym, arith}
+use Rattle.std.proofs.Common.{arith}
 use Rattle.std.proofs.lemmas.Bool.{and_parts}
+use Rattle.text_bytes.specs.Lists.{listed}
 use Rattle.nir_ops.specs.declared.op.Op.{Op}
 use Rattle.nir_ops.specs.declared.width.Width.{Width}
 use Rattle.nir_ops.specs.declared.width.Width.TheVariants.{W1, W8, W16, W32, W64}
@@ -17,8 +18,7 @@ use Rattle.nir_ir.specs.Shaped.{IsCount, IsSwizzle}
 use Rattle.nir_lex.specs.Classes.{is_blank, is_in_word, is_punctuation, is_word, starts_word}
 use Rattle.nir_spelling.specs.Lexemes.{Part, ◌▹◌, IsMark, IsWord, IsIndex, EachBehindComma, Separated}
 use Rattle.nir_spelling.specs.Spelling.{IsKind, kind_word, IsComponent, SpellsComponent, swizzle_word}
-use Rattle.nir_print.specs.Text.{listed, kind_text, letter}
-use Rattle.nir_print.proofs.EachOf.{all_append}
+use Rattle.nir_print.specs.EachOf.{all_append}
 use Rattle.nir_print.proofs.Lexing.{Lexing, Prints, Any, Stop, blank_prints, word_prints, mark_prints, number_prints, nothing_prints, followed, ◌⨾◌, is_word-cons, decimal_in_word}
 
 -- ---- words
@@ -51,27 +51,23 @@ is_word-kind kind count =
     is_word-cons 119 (decimal (width_bits kind.width) ++ 120 ∷ [] ++ decimal kind.count) refl refl (all_append in_word (decimal (width_bits kind.width) ++ 120 ∷ []) (decimal kind.count) bits count_in_word)
 
 -- the letters of a swizzle
-letter_is : (component : ℕ) → component < 4 → (starts_word (letter component) ≡ true) × (is_in_word (letter component) ≡ true) × (get_or (codes "xyzw") component 0 ≡ letter component)
+letter_is : (component : ℕ) → component < 4 → (starts_word (get_or (codes "xyzw") component 0) ≡ true) × (is_in_word (get_or (codes "xyzw") component 0) ≡ true)
 unfolding starts_word is_in_word
-letter_is zero lt = (refl, refl, refl)
-letter_is (suc zero) lt = (refl, refl, refl)
-letter_is (suc (suc zero)) lt = (refl, refl, refl)
-letter_is (suc (suc (suc zero))) lt = (refl, refl, refl)
+letter_is zero lt = (refl, refl)
+letter_is (suc zero) lt = (refl, refl)
+letter_is (suc (suc zero)) lt = (refl, refl)
+letter_is (suc (suc (suc zero))) lt = (refl, refl)
 letter_is (suc (suc (suc (suc n)))) lt = absurd (omega arith)
 
-letters_in_word : (swizzle : List ℕ) → AllByRecursion (λ entry. entry < 4) swizzle → AllByRecursion (λ c. is_in_word c ≡ true) (map letter swizzle)
+letters_in_word : (swizzle : List ℕ) → AllByRecursion (λ entry. entry < 4) swizzle → AllByRecursion (λ c. is_in_word c ≡ true) (swizzle_word swizzle)
 letters_in_word [] all = tt
 letters_in_word (c ∷ swizzle) all = ((letter_is c all.0).1, letters_in_word swizzle all.1)
 
-pub letters_are : (swizzle : List ℕ) → AllByRecursion (λ entry. entry < 4) swizzle → map letter swizzle ≡ swizzle_word swizzle
-letters_are [] all = refl
-letters_are (c ∷ swizzle) all = λ i. sym (letter_is c all.0).2 i ∷ letters_are swizzle all.1 i
-
-pub is_word-letters : (swizzle : List ℕ) → IsSwizzle swizzle → is_word (map letter swizzle) ≡ true
-is_word-letters [] is = absurd (omega (arith, is.some))
-is_word-letters (c ∷ swizzle) is =
+pub is_word-swizzle : (swizzle : List ℕ) → IsSwizzle swizzle → is_word (swizzle_word swizzle) ≡ true
+is_word-swizzle [] is = absurd (omega (arith, is.some))
+is_word-swizzle (c ∷ swizzle) is =
     let first = letter_is c is.components.0 in
-    is_word-cons (letter c) (map letter swizzle) first.0 first.1 (letters_in_word swizzle is.components.1)
+    is_word-cons (get_or (codes "xyzw") c 0) (swizzle_word swizzle) first.0 first.1 (letters_in_word swizzle is.components.1)
 
 -- ---- parts that need no names
 
@@ -132,7 +128,7 @@ module _ (lexing : Lexing) where
   pub this_word : (word : List ℕ) → is_word word ≡ true → Prints Stop word (λ behind. IsWord word ▹ behind)
   this_word word is = word_prints lexing word (IsWord word) is (refl, refl)
 
-  pub kind_prints : (kind : Kind) → IsCount kind.count → Prints Stop (kind_text kind) (λ behind. IsKind kind ▹ behind)
+  pub kind_prints : (kind : Kind) → IsCount kind.count → Prints Stop (kind_word kind) (λ behind. IsKind kind ▹ behind)
   kind_prints kind count = word_prints lexing (kind_word kind) (IsKind kind) (is_word-kind kind count) ((refl, refl), count)
 
   pub index_prints : (n : ℕ) → n < 2 ^ 32 → Prints Stop (decimal n) (λ behind. IsIndex n ▹ behind)

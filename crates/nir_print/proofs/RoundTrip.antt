@@ -18,7 +18,7 @@ use Rattle.nir_print.specs.Naming.{naming_of, place}
 use Rattle.nir_print.specs.Renumber.{renumber}
 use Rattle.nir_print.specs.Text.{text_of}
 use Rattle.nir_print.specs.RoundTrip.{addresses_of, addresses, value_name, block_word, printed_names, HasMachineNumbers, TextDenotes, ReadingGivesRenumbered}
-use Rattle.nir_print.proofs.EachOf.{given_by_each, given_in_two}
+use Rattle.nir_print.specs.EachOf.{given_by_each, given_in_two}
 use Rattle.nir_print.proofs.WordLemmas.{each_word}
 use Rattle.nir_print.proofs.Spelled.{AreNames, IsPrintable, text_spells}
 use Rattle.nir_print.proofs.Renumbered.{resolves}

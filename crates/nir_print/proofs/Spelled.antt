@@ -8,6 +8,7 @@ use Rattle.std.proofs.lemmas.Bool.{false≢true}
 use Rattle.std.proofs.lemmas.List.{append-nil, length-map}
 use Rattle.std.proofs.lemmas.Option.{slice_get-map}
 use Rattle.std.proofs.lemmas.Slice.Eq.{bytes_eq-Decides}
+use Rattle.text_bytes.specs.Lists.{listed}
 use Rattle.nir_ops.specs.Opcodes.{name_of}
 use Rattle.nir_ops.specs.Width.{width_bits}
 use Rattle.nir_ir.specs.declared.ids.BlockId.{BlockId}
@@ -29,14 +30,14 @@ use Rattle.nir_ir.specs.Shaped.{IsOneOf, IsCount, IsSwizzle, IsShapedItem}
 use Rattle.nir_lex.specs.Classes.{is_in_word, is_word, starts_word}
 use Rattle.nir_text.specs.Naming as text
 use Rattle.nir_spelling.specs.Lexemes.{Part, ◌▹◌, Nothing, IsMark, IsWord, IsIndex, IsEnd, Each, Separated}
-use Rattle.nir_spelling.specs.Spelling.{IsKind, SpellsComponent, SpellsKinds, IsValue, IsBlock, SpellsSwizzle, SpellsSrc, TakesAll, swizzle_word, SpellsInstr, SpellsPhiSource, SpellsPhi, SpellsJump, SpellsBlock, SpellsNodes, Spells}
+use Rattle.nir_spelling.specs.Spelling.{kind_word, IsKind, SpellsComponent, SpellsKinds, IsValue, IsBlock, SpellsSwizzle, SpellsSrc, TakesAll, swizzle_word, SpellsInstr, SpellsPhiSource, SpellsPhi, SpellsJump, SpellsBlock, SpellsNodes, Spells}
 use Rattle.nir_print.specs.Naming.{Naming, value_place, block_place, kind_of, in_block_order}
 use Rattle.nir_print.specs.Renumber.{Numbers, new_value, new_block, new_src, new_instr, new_phi_source, new_phi, new_block_node, new_nodes, numbers_of, renumber}
-use Rattle.nir_print.specs.Text.{listed, kind_text, value_text, block_name, letter, is_whole, src_text, defining, instr_text, phi_source_text, phi_text, jump_text, line, deeper, block_text, nodes_text, kinds_text, text_of}
+use Rattle.nir_print.specs.Text.{value_text, block_name, is_whole, src_text, defining, instr_text, phi_source_text, phi_text, jump_text, line, deeper, block_text, nodes_text, kinds_text, text_of}
 use Rattle.nir_print.specs.RoundTrip.{addresses_of, value_name, block_word}
-use Rattle.nir_print.proofs.EachOf.{all_front, all_back, all_of_map, all_both, all_filter, all_flat_map, map_same}
+use Rattle.nir_print.specs.EachOf.{all_front, all_back, all_of_map, all_both, all_filter, all_flat_map, map_same}
 use Rattle.nir_print.proofs.Lexing.{Lexing, Gives, Prints, Any, Stop, end_gives, word_prints, name_prints, nothing_prints, followed, ◌⨾◌, stopped, weaker, implied, each_prints, is_word-block}
-use Rattle.nir_print.proofs.Parts.{is_word-op, is_word-letters, letters_are, space, line_feed, comma, dot, colon, equals, at_sign, open_round, close_round, open_square, close_square, open_brace, close_brace, this_word, kind_prints, index_prints, component_prints, listed_prints}
+use Rattle.nir_print.proofs.Parts.{is_word-op, is_word-swizzle, space, line_feed, comma, dot, colon, equals, at_sign, open_round, close_round, open_square, close_square, open_brace, close_brace, this_word, kind_prints, index_prints, component_prints, listed_prints}
 
 -- ---- what is asked of names and of items
 
@@ -82,15 +83,15 @@ module _ (lexing : Lexing) where
         let place : ℕ = value_place numbers.naming src.value in
         (kind.count, ap (λ l. slice_get l place) are.counts ∙ slice_get-map (λ kind. kind.count) numbers.naming.kinds place ∙ ap (option_map (λ kind. kind.count)) is, (bytes_eq-Decides src.swizzle (range_with_len 0 kind.count)).0 whole)
 
-    swizzle_stops : (src : Src) (whole : Bool) (rest : List ℕ) → Stop rest → Stop (cond whole [] (codes "." ++ map letter src.swizzle) ++ rest)
+    swizzle_stops : (src : Src) (whole : Bool) (rest : List ℕ) → Stop rest → Stop (cond whole [] (codes "." ++ swizzle_word src.swizzle) ++ rest)
     unfolding is_in_word
     swizzle_stops src true rest stop = stop
     swizzle_stops src false rest stop = refl
 
-    swizzle_prints : (src : Src) → IsSwizzle src.swizzle → (whole : Bool) → is_whole numbers.naming src ≡ whole → Prints Stop (cond whole [] (codes "." ++ map letter src.swizzle)) (SpellsSwizzle names (new_src numbers src))
+    swizzle_prints : (src : Src) → IsSwizzle src.swizzle → (whole : Bool) → is_whole numbers.naming src ≡ whole → Prints Stop (cond whole [] (codes "." ++ swizzle_word src.swizzle)) (SpellsSwizzle names (new_src numbers src))
     swizzle_prints src swizzle true is = implied nothing_prints (λ behind lexemes h. inr (takes_all src (kind_of numbers.naming src.value) refl is, h))
     swizzle_prints src swizzle false is =
-        let word = word_prints lexing (map letter src.swizzle) (IsWord (swizzle_word src.swizzle)) (is_word-letters src.swizzle swizzle) (refl, letters_are src.swizzle swizzle.components) in
+        let word = this_word lexing (swizzle_word src.swizzle) (is_word-swizzle src.swizzle swizzle) in
         let both = dot lexing ⨾ word in
         implied both (λ behind lexemes h. inl (swizzle, h))
 
@@ -316,10 +317,10 @@ module _ (lexing : Lexing) where
 
   -- ---- the whole text
 
-  kinds_print : (kinds : List Kind) → AllByRecursion (λ kind. IsCount kind.count) kinds → Prints Stop (listed (map kind_text kinds)) (Separated (λ kind behind. IsKind kind ▹ behind) kinds)
+  kinds_print : (kinds : List Kind) → AllByRecursion (λ kind. IsCount kind.count) kinds → Prints Stop (listed (map kind_word kinds)) (Separated (λ kind behind. IsKind kind ▹ behind) kinds)
   kinds_print kinds counts =
-      let all = listed_prints lexing (λ kind. IsCount kind.count) kind_text (λ kind. kind) (λ kind behind. IsKind kind ▹ behind) (kind_prints lexing) kinds counts in
-      subst (λ l. Prints Stop (listed (map kind_text kinds)) (Separated (λ kind behind. IsKind kind ▹ behind) l)) (map_same kinds) all
+      let all = listed_prints lexing (λ kind. IsCount kind.count) kind_word (λ kind. kind) (λ kind behind. IsKind kind ▹ behind) (kind_prints lexing) kinds counts in
+      subst (λ l. Prints Stop (listed (map kind_word kinds)) (Separated (λ kind behind. IsKind kind ▹ behind) l)) (map_same kinds) all
 
   declared_print : (word : List ℕ) (kinds : List Kind) → is_word word ≡ true → AllByRecursion (λ kind. IsCount kind.count) kinds → Prints Any (line [] (kinds_text word kinds)) (λ behind. IsWord word ▹ SpellsKinds kinds behind)
   unfolding is_in_word

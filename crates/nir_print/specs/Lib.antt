@@ -1,5 +1,8 @@
+pub mod BlockGroups
+pub mod EachOf
 pub mod Naming
 pub mod Renumber
+pub mod RenumberedItems
 pub mod RoundTrip
 pub mod Sample
 pub mod Text

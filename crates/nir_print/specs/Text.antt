@@ -1,10 +1,10 @@
 -- The canonical text of a shader: one line for each part, two spaces for each list or block around it (this project's own form of Mesa's NIR).
-use Rattle.std.specs.Prelude.{ℕ, List, [], ◌∷◌, ◌++◌, map, Bool, false, cond, nat_eq, codes, decimal}
+use Rattle.std.specs.Prelude.{ℕ, List, [], ◌++◌, map, Bool, false, cond, codes, decimal}
 use Rattle.std.specs.Option.{option_to_list, option_map_or}
 use Rattle.std.specs.List.{flat_map, range_with_len}
 use Rattle.std.specs.Str.{bytes_eq}
+use Rattle.text_bytes.specs.Lists.{listed, numbers_text}
 use Rattle.nir_ops.specs.Opcodes.{name_of}
-use Rattle.nir_ops.specs.Width.{width_bits}
 use Rattle.nir_ir.specs.declared.ids.BlockId.{BlockId}
 use Rattle.nir_ir.specs.declared.ids.ValueId.{ValueId}
 use Rattle.nir_ir.specs.declared.instr.Instr.{Instr}
@@ -18,16 +18,8 @@ use Rattle.nir_ir.specs.declared.node.Phi.{Phi}
 use Rattle.nir_ir.specs.declared.node.PhiSource.{PhiSource}
 use Rattle.nir_ir.specs.Nodes.{Nodes, Nil, BlockThen, IfThen, LoopThen}
 use Rattle.nir_ir.specs.Shader.{Shader}
+use Rattle.nir_spelling.specs.Spelling.{kind_word, swizzle_word}
 use Rattle.nir_print.specs.Naming.{Naming, naming_of, value_place, block_place, kind_of, in_block_order}
-
--- parts with a comma and a space between them
-abbrev pub listed : List (List ℕ) → List ℕ
-listed [] = []
-listed (part ∷ parts) = part ++ flat_map (λ next. codes ", " ++ next) parts
-
--- a kind: w, the bit size, x, the count
-abbrev pub kind_text : Kind → List ℕ
-kind_text kind = codes "w" ++ decimal (width_bits kind.width) ++ codes "x" ++ decimal kind.count
 
 -- %k and bk, where k is the place in text order
 abbrev pub value_text : Naming → ValueId → List ℕ
@@ -36,25 +28,21 @@ value_text naming value = codes "%" ++ decimal (value_place naming value)
 abbrev pub block_name : Naming → BlockId → List ℕ
 block_name naming block = codes "b" ++ decimal (block_place naming block)
 
--- the letter of a component: x, y, z, w
-abbrev pub letter : ℕ → ℕ
-letter component = cond (nat_eq component 0) 120 (cond (nat_eq component 1) 121 (cond (nat_eq component 2) 122 119))
-
 -- a swizzle that is all components of its value in order
 abbrev pub is_whole : Naming → Src → Bool
 is_whole naming src = option_map_or (λ kind. bytes_eq src.swizzle (range_with_len 0 kind.count)) (kind_of naming src.value) false
 
 -- a source of an ALU instruction; a whole swizzle is left out
 abbrev pub src_text : Naming → Src → List ℕ
-src_text naming src = value_text naming src.value ++ cond (is_whole naming src) [] (codes "." ++ map letter src.swizzle)
+src_text naming src = value_text naming src.value ++ cond (is_whole naming src) [] (codes "." ++ swizzle_word src.swizzle)
 
 -- what defines a value: its name, the word, and the kind
 abbrev pub defining : Naming → ValueId → List ℕ → Kind → List ℕ
-defining naming value word kind = value_text naming value ++ codes " = " ++ word ++ codes " " ++ kind_text kind
+defining naming value word kind = value_text naming value ++ codes " = " ++ word ++ codes " " ++ kind_word kind
 
 abbrev pub instr_text : Naming → Instr → List ℕ
 instr_text naming (Alu value op kind srcs) = defining naming value (name_of op) kind ++ codes " " ++ listed (map (src_text naming) srcs)
-instr_text naming (Const value kind comps) = defining naming value (codes "const") kind ++ codes " (" ++ listed (map decimal comps) ++ codes ")"
+instr_text naming (Const value kind comps) = defining naming value (codes "const") kind ++ codes " (" ++ numbers_text comps ++ codes ")"
 instr_text naming (Undef value kind) = defining naming value (codes "undef") kind
 instr_text naming (Input value kind slot) = defining naming value (codes "input") kind ++ codes " @" ++ decimal slot
 instr_text naming (Output effect slot src) = codes "output @" ++ decimal slot ++ codes ", " ++ value_text naming src
@@ -108,7 +96,7 @@ nodes_text naming indent (LoopThen id body rest) = loop_text indent (nodes_text 
 
 -- the declared kinds of inputs or outputs
 abbrev pub kinds_text : List ℕ → List Kind → List ℕ
-kinds_text word kinds = word ++ codes " [" ++ listed (map kind_text kinds) ++ codes "]"
+kinds_text word kinds = word ++ codes " [" ++ listed (map kind_word kinds) ++ codes "]"
 
 abbrev pub text_of : Shader → List ℕ
 text_of shader =

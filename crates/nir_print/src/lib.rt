@@ -12,6 +12,8 @@ ghost use Rattle.nir_print.specs.Text.{text_of, line, kinds_text};
 mod collect;
 mod line;
 mod naming;
+#[cfg(test)]
+mod round_trip_tests;
 mod sources;
 #[cfg(test)]
 mod tests;
@@ -23,8 +25,9 @@ use nir_host::{Bytes, OutOfMemory, Seq};
 use nir_ir::{Kinds, Shader};
 use nir_lex::{blanks_are_passed, spelled_is_read};
 use std::alloc::Global;
+use text_bytes::{push, push_number};
 use tree::{push_line, push_nodes};
-use word::{push, push_kinds, push_number};
+use word::push_kinds;
 
 /// The canonical text of a shader: values and blocks are named by their places in text order, the sources
 /// of a phi stand in block order, and each part has a line of its own. It is in the grammar of shader

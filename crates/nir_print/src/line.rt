@@ -6,11 +6,12 @@ ghost use Rattle.nir_print.specs.Text.{defining, phi_text, instr_text, jump_text
 
 use crate::naming::Naming;
 use crate::sources::push_phi_sources;
-use crate::word::{push, push_comps, push_kind, push_number, push_srcs, push_value};
+use crate::word::{push_kind, push_srcs, push_value};
 use nir_host::OutOfMemory;
 use nir_ir::{Comps, Instr, Jump, Kind, Phi, Srcs, ValueId};
 use nir_ops::{Op, name};
 use std::alloc::Global;
+use text_bytes::{push, push_number, push_numbers};
 
 /// Adds what defines a value: its name, the word and the kind.
 fn push_defining(
@@ -71,7 +72,7 @@ fn push_const(
 {
     push_defining(out, naming, value, b"const", kind)?;
     push(out, b" (")?;
-    push_comps(out, comps.as_slice())?;
+    push_numbers(out, comps.as_slice())?;
     push(out, b")")
 }
 

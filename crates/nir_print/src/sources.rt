@@ -2,13 +2,15 @@
 
 ghost use Rattle.std.specs.Prelude.{◌≡◌, ◌++◌, OnOk, IfOk, map};
 ghost use Rattle.nir_print.specs.Naming.{in_block_order};
-ghost use Rattle.nir_print.specs.Text.{listed, phi_source_text};
+ghost use Rattle.text_bytes.specs.Lists.{listed};
+ghost use Rattle.nir_print.specs.Text.{phi_source_text};
 
 use crate::naming::Naming;
-use crate::word::{push, push_block_name, push_value};
+use crate::word::{push_block_name, push_value};
 use nir_host::OutOfMemory;
 use nir_ir::PhiSource;
 use std::alloc::Global;
+use text_bytes::push;
 
 /// The sources in the order of their blocks in the text, those of one block in the order they had.
 fn in_block_order(

@@ -8,10 +8,11 @@ ghost use Rattle.nir_print.specs.Text.{line, deeper, block_name, value_text, phi
 
 use crate::line::{push_instr, push_jump, push_phi};
 use crate::naming::Naming;
-use crate::word::{push, push_block_name, push_value};
+use crate::word::{push_block_name, push_value};
 use nir_host::OutOfMemory;
 use nir_ir::{Block, BlockId, Instr, Jump, Node, Phi, ValueId};
 use std::alloc::Global;
+use text_bytes::push;
 
 /// The spaces of what stands one list or block further in.
 pub(crate) fn deeper(alloc: Global, indent: &[u8]) -> Result<Vec<u8>, OutOfMemory>

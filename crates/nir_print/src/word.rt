@@ -1,34 +1,20 @@
 //! The words of a text, each added at the end of what is written.
 
-ghost use Rattle.std.specs.Prelude.{◌≡◌, ◌++◌, OnOk, decimal, map};
+ghost use Rattle.std.specs.Prelude.{◌≡◌, ◌++◌, OnOk, codes, get_or, map};
 ghost use Rattle.std.specs.List.{range_with_len};
 ghost use Rattle.std.specs.Str.{bytes_eq};
-ghost use Rattle.nir_print.specs.Text.{kind_text, value_text, block_name, letter, is_whole, src_text, listed};
+ghost use Rattle.text_bytes.specs.Lists.{listed};
+ghost use Rattle.nir_spelling.specs.Spelling.{kind_word, swizzle_word};
+ghost use Rattle.nir_print.specs.Text.{value_text, block_name, is_whole, src_text};
 
 use crate::naming::Naming;
-use itoa::Buffer;
 use nir_host::OutOfMemory;
 use nir_ir::{BlockId, Kind, Src, ValueId};
-
-/// Adds bytes as they are.
-pub(crate) fn push(out: &mut Vec<u8>, text: &[u8]) -> Result<(), OutOfMemory>
-    ensures { OnOk result (out.new.items ≡ out.old.items ++ text.now) }
-{
-    out.extend_from_slice(text)?;
-    Ok(())
-}
-
-/// Adds a number in unsigned decimal.
-pub(crate) fn push_number(out: &mut Vec<u8>, number: u64) -> Result<(), OutOfMemory>
-    ensures { OnOk result (out.new.items ≡ out.old.items ++ decimal number) }
-{
-    let mut buffer = Buffer::new();
-    push(out, buffer.format(number).as_bytes())
-}
+use text_bytes::{push, push_number};
 
 /// Adds a kind.
 pub(crate) fn push_kind(out: &mut Vec<u8>, kind: Kind) -> Result<(), OutOfMemory>
-    ensures { OnOk result (out.new.items ≡ out.old.items ++ kind_text kind) }
+    ensures { OnOk result (out.new.items ≡ out.old.items ++ kind_word kind) }
 {
     push(out, b"w")?;
     push_number(out, u64::from(kind.width.bits()))?;
@@ -60,21 +46,22 @@ pub(crate) fn push_block_name(
     push_number(out, naming.block_place(block) as u64)
 }
 
-/// The letter of a component.
+/// The letter of a component; 0 for a number of none, which no source of a shader has.
 fn letter(component: u8) -> u8
-    ensures { result ≡ letter component }
+    ensures { result ≡ get_or (codes "xyzw") component 0 }
 {
     match component {
         0 => b'x',
         1 => b'y',
         2 => b'z',
-        _ => b'w',
+        3 => b'w',
+        _ => 0,
     }
 }
 
 /// Adds the letters of a swizzle.
 fn push_letters(out: &mut Vec<u8>, swizzle: &[u8]) -> Result<(), OutOfMemory>
-    ensures { OnOk result (out.new.items ≡ out.old.items ++ map letter swizzle.now) }
+    ensures { OnOk result (out.new.items ≡ out.old.items ++ swizzle_word swizzle.now) }
 {
     for component in swizzle {
         push(out, &[letter(*component)])?;
@@ -138,26 +125,9 @@ pub(crate) fn push_srcs(out: &mut Vec<u8>, naming: &Naming, srcs: &[Src]) -> Res
     }
 }
 
-/// Adds the components of a const.
-pub(crate) fn push_comps(out: &mut Vec<u8>, comps: &[u64]) -> Result<(), OutOfMemory>
-    ensures { OnOk result (out.new.items ≡ out.old.items ++ listed (map decimal comps.now)) }
-{
-    match comps {
-        [] => Ok(()),
-        [first, rest @ ..] => {
-            push_number(out, *first)?;
-            for comp in rest {
-                push(out, b", ")?;
-                push_number(out, *comp)?;
-            }
-            Ok(())
-        }
-    }
-}
-
 /// Adds the kinds of a declaration.
 pub(crate) fn push_kinds(out: &mut Vec<u8>, kinds: &[Kind]) -> Result<(), OutOfMemory>
-    ensures { OnOk result (out.new.items ≡ out.old.items ++ listed (map kind_text kinds.now)) }
+    ensures { OnOk result (out.new.items ≡ out.old.items ++ listed (map kind_word kinds.now)) }
 {
     match kinds {
         [] => Ok(()),

@@ -1,7 +1,8 @@
 -- what is written and what is left make the whole list
 use Rattle.std.proofs.Common.{◌≡◌, ◌++◌, drop, map, codes}
 use Rattle.std.specs.List.{flat_map}
-use Rattle.nir_print.specs.Text.{listed, phi_source_text}
+use Rattle.text_bytes.specs.Lists.{listed}
+use Rattle.nir_print.specs.Text.{phi_source_text}
 use Rattle.nir_print.proofs.sources.push_listed.Given as goal
 
 abbrev pub invariant-loop-source : goal.invariant-loop-source

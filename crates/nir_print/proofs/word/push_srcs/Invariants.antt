@@ -1,7 +1,8 @@
 -- what is written and what is left make the whole list
 use Rattle.std.proofs.Common.{◌≡◌, ◌++◌, drop, map, codes}
 use Rattle.std.specs.List.{flat_map}
-use Rattle.nir_print.specs.Text.{listed, src_text}
+use Rattle.text_bytes.specs.Lists.{listed}
+use Rattle.nir_print.specs.Text.{src_text}
 use Rattle.nir_print.proofs.word.push_srcs.Given as goal
 
 abbrev pub invariant-loop-src : goal.invariant-loop-src
