@@ -1,0 +1,12 @@
+pub mod Places
+pub mod BlockOrder
+pub mod Steps
+pub mod SameRuns
+pub mod Apart
+pub mod InstrReads
+pub mod Walk
+pub mod Sources
+pub mod Visits
+pub mod Spots
+pub mod Shape
+pub mod KeepsValid
