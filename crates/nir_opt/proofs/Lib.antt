@@ -1,5 +1,7 @@
-pub mod Long
+pub mod TextAnswers
 pub mod OneBlock
 pub mod RuleForms
 pub mod RunLemmas
 pub mod KeptLemmas
+pub mod Stops
+pub mod Finishes

@@ -1,15 +1,16 @@
 -- What each status says of the words, of the texts of the two sources, and which line it writes.
 use Rattle.std.specs.Prelude.{◌≡◌, ℕ, Bool, true, false, not, ◌++◌, List, [], ◌∷◌, codes, decimal, IsOk, Option, Some, None, Result, Ok, Err, nat_eq, if◌then◌else◌, ⊤}
 use Rattle.std.specs.List.{starts_with}
-use Rattle.nir_host.specs.declared.fault.Which.{Which}
 use Rattle.nir_host.specs.declared.fault.Which.TheVariants.{Rules, Shader}
 use Rattle.nir_ir.specs.Shader as ir
+use Rattle.text_bytes.specs.Lists.{numbers_text}
 use Rattle.rule_check.specs.declared.refused.Refused.{Refused}
 use Rattle.rule_check.specs.declared.refused.RuleCause.{RuleCause}
 use Rattle.rule_check.specs.declared.refused.RuleCause.TheVariants.{Cases, TooManyCases}
 use Rattle.rule_check.specs.Accepted.{refusal_of}
 use Rattle.rule_read.specs.RuleFile.{RuleFile}
-use Rattle.nir_mean.specs.Faults.{fault_place, fault_text}
+use Rattle.nir_mean.specs.Faults.{fault_place}
+use Rattle.nir_mean.specs.ShaderLines.{invalid_line, syntax_line, which_text}
 use Rattle.nir_mean.specs.ShaderText.{Answer, Faulty, Invalid, Sound, answer_of}
 use Rattle.nir_mean.specs.ShaderText as answer
 use Rattle.nir_opt.specs.declared.status.Status.{Status}
@@ -99,10 +100,6 @@ ShaderFits OutOfMemory answer = ⊤
 ShaderFits (NotBuilt Rules) answer = ⊤
 ShaderFits (NotBuilt Shader) answer = answer ≡ Err (NotBuilt Shader)
 
-abbrev pub which_text : Which → List ℕ
-which_text Rules = codes "rules"
-which_text Shader = codes "shader"
-
 -- a status that was found before the shader was read
 abbrev pub is_of_rules : Status → Bool
 is_of_rules status.Ok = false
@@ -132,15 +129,9 @@ EndsWell (status.TooLong which) = ⊥
 EndsWell OutOfMemory = ⊤
 EndsWell (NotBuilt which) = ⊥
 
--- numbers with a comma and a blank between them
-abbrev pub values_text : List ℕ → List ℕ
-values_text [] = []
-values_text (value ∷ []) = decimal value
-values_text (value ∷ another ∷ others) = decimal value ++ codes ", " ++ values_text (another ∷ others)
-
 abbrev pub at_values : List ℕ → List ℕ
 at_values [] = []
-at_values (value ∷ values) = codes " at " ++ values_text (value ∷ values)
+at_values (value ∷ values) = codes " at " ++ numbers_text (value ∷ values)
 
 abbrev pub cause_text : RuleCause → List ℕ
 cause_text (Cases values) = codes "cases differ" ++ at_values values
@@ -154,10 +145,6 @@ typing_text (Some typing) = codes " typing " ++ decimal typing
 abbrev pub refusal_text : Refused → List ℕ
 refusal_text refused = codes "rule " ++ decimal refused.rule ++ typing_text refused.typing ++ codes ": " ++ cause_text refused.cause
 
--- the rule of valid shaders that is broken, and the item that breaks it
-abbrev pub invalid_text : ℕ → ℕ → List ℕ
-invalid_text rule item = codes "V" ++ decimal rule ++ codes " at item " ++ decimal item
-
 -- the line of a status, or nothing
 abbrev pub line_of : Status → List ℕ
 line_of status.Ok = []
@@ -165,8 +152,8 @@ line_of Usage = codes "usage: nir_opt RULES [--limit=N] [--option=NAME] [--remar
 line_of (ReadFault which) = codes "read failed: " ++ which_text which ++ codes "\n"
 line_of WriteFault = codes "write failed\n"
 line_of (RuleRefused refused) = codes "rules: " ++ refusal_text refused ++ codes "\n"
-line_of (ShaderSyntax fault) = codes "shader: " ++ fault_text fault ++ codes "\n"
-line_of (ShaderInvalid rule item) = codes "shader: " ++ invalid_text rule item ++ codes "\n"
+line_of (ShaderSyntax fault) = syntax_line fault
+line_of (ShaderInvalid rule item) = invalid_line rule item
 line_of (status.TooLong which) = codes "too long: " ++ which_text which ++ codes "\n"
 line_of OutOfMemory = codes "out of memory\n"
 line_of (NotBuilt which) = codes "not built: " ++ which_text which ++ codes "\n"

@@ -1,60 +1,61 @@
--- What it says of the text of a source how reading it ended.
-use Rattle.std.specs.Prelude.{◌≡◌, ℕ, true, List, [], Option, Some, None, Result, Ok, Err, ⊤}
-use Rattle.nir_host.specs.declared.fault.Which.TheVariants as which
-use Rattle.nir_ir.specs.Shader.{Shader}
-use Rattle.nir_opt.specs.declared.first_form.Built.{Built}
-use Rattle.nir_opt.specs.declared.texts.Refusal.{Refusal}
-use Rattle.nir_opt.specs.declared.texts.Refusal.TheVariants.{ReadFault, NotBuilt, OutOfMemory}
-use Rattle.nir_opt.specs.declared.texts.ShaderRefusal.{ShaderRefusal}
-use Rattle.nir_opt.specs.declared.texts.ShaderRefusal.TheVariants as refusal
-use Rattle.nir_opt.specs.declared.status.Status.{Status}
-use Rattle.nir_opt.specs.declared.status.Status.TheVariants as status
+-- How reading the rules and reading the shader end: with which statuses, and what the end says of the text.
+use Rattle.std.specs.Prelude.{◌≡◌, true, List, Option, Some, Result, Ok, Err, ⊤}
+use Rattle.nir_host.specs.declared.fault.Which.TheVariants.{Rules, Shader}
+use Rattle.nir_ir.specs.Shader as ir
+use Rattle.rule_check.specs.Accepted.{rules_of}
+use Rattle.rule_read.specs.RuleFile.{RuleFile}
+use Rattle.rule_term.specs.Table.{Table}
 use Rattle.nir_mean.specs.Faults.{is_of_text}
+use Rattle.nir_opt.specs.declared.first_form.Built.{Built}
+use Rattle.nir_opt.specs.declared.status.Status.{Status}
+use Rattle.nir_opt.specs.declared.status.Status.TheVariants.{Usage, ReadFault, WriteFault, RuleRefused, ShaderSyntax, ShaderInvalid, NotBuilt, OutOfMemory}
+use Rattle.nir_opt.specs.declared.status.Status.TheVariants as status
+use Rattle.nir_opt.specs.Answers.{AreAccepted, RulesFit, ShaderFits}
 
--- a text has what was read of it, is not built, or was not looked at
-abbrev pub TextAnswer : {A : Type 0} → Result A Refusal → Option A → Type 0
-TextAnswer (Ok found) built = built ≡ Some found
-TextAnswer (Err ReadFault) built = ⊤
-TextAnswer (Err NotBuilt) built = built ≡ None
-TextAnswer (Err OutOfMemory) built = ⊤
+-- the table has the rules of the file that a text is built as, and they are accepted
+pub record IsTableOf (built : Option RuleFile) (table : Table) : Type 0 where
+  pub file : RuleFile
+  pub is_built : built ≡ Some file
+  pub accepted : AreAccepted (Some file)
+  pub rules : table.rules ≡ rules_of file.entries
 
--- where reading failed, this holds
-abbrev pub OnReadFault : {A : Type 0} → Result A Refusal → Type 0 → Type 0
-OnReadFault (Ok done) fact = ⊤
-OnReadFault (Err ReadFault) fact = fact
-OnReadFault (Err NotBuilt) fact = ⊤
-OnReadFault (Err OutOfMemory) fact = ⊤
+-- a rule text has this table, or is as the status says
+abbrev pub TableFits : Result Table Status → Option RuleFile → Type 0
+TableFits (Ok table) built = IsTableOf built table
+TableFits (Err status) built = RulesFit status built
 
--- a shader text has this shader, or the status that is answered for it, or was not looked at
-abbrev pub IsShaderAnswer : Result Built ShaderRefusal → Result Shader Status → Type 0
-IsShaderAnswer (Ok found) answer = answer ≡ Ok found.shader
-IsShaderAnswer (Err refusal.ReadFault) answer = ⊤
-IsShaderAnswer (Err refusal.TooLong) answer = answer ≡ Err (status.TooLong which.Shader)
-IsShaderAnswer (Err (refusal.Syntax fault)) answer = answer ≡ Err (status.ShaderSyntax fault)
-IsShaderAnswer (Err (refusal.Invalid rule item)) answer = answer ≡ Err (status.ShaderInvalid rule item)
-IsShaderAnswer (Err refusal.NotBuilt) answer = answer ≡ Err (status.NotBuilt which.Shader)
-IsShaderAnswer (Err refusal.OutOfMemory) answer = ⊤
+-- a shader text has this shader, or is as the status says
+abbrev pub BuiltFits : Result Built Status → Result ir.Shader Status → Type 0
+BuiltFits (Ok built) answer = answer ≡ Ok built.shader
+BuiltFits (Err status) answer = ShaderFits status answer
 
--- where reading failed, this holds
-abbrev pub OnShaderFault : Result Built ShaderRefusal → Type 0 → Type 0
-OnShaderFault (Ok found) fact = ⊤
-OnShaderFault (Err refusal.ReadFault) fact = fact
-OnShaderFault (Err refusal.TooLong) fact = ⊤
-OnShaderFault (Err (refusal.Syntax fault)) fact = ⊤
-OnShaderFault (Err (refusal.Invalid rule item)) fact = ⊤
-OnShaderFault (Err refusal.NotBuilt) fact = ⊤
-OnShaderFault (Err refusal.OutOfMemory) fact = ⊤
+-- reading the rules may end with this status; where that is a fault of their source, this holds
+abbrev pub EndsRules : Status → Type 0 → Type 0
+EndsRules status.Ok fault = ⊥
+EndsRules Usage fault = ⊥
+EndsRules (ReadFault Rules) fault = fault
+EndsRules (ReadFault Shader) fault = ⊥
+EndsRules WriteFault fault = ⊥
+EndsRules (RuleRefused refused) fault = ⊤
+EndsRules (ShaderSyntax of_text) fault = ⊥
+EndsRules (ShaderInvalid rule item) fault = ⊥
+EndsRules (status.TooLong which) fault = ⊥
+EndsRules OutOfMemory fault = ⊤
+EndsRules (NotBuilt Rules) fault = ⊤
+EndsRules (NotBuilt Shader) fault = ⊥
 
--- what is told of a text is a fault of it
-abbrev pub TellsFault : Result Built ShaderRefusal → Type 0
-TellsFault (Ok found) = ⊤
-TellsFault (Err refusal.ReadFault) = ⊤
-TellsFault (Err refusal.TooLong) = ⊤
-TellsFault (Err (refusal.Syntax fault)) = is_of_text fault ≡ true
-TellsFault (Err (refusal.Invalid rule item)) = ⊤
-TellsFault (Err refusal.NotBuilt) = ⊤
-TellsFault (Err refusal.OutOfMemory) = ⊤
-
--- on Ok, all bytes that were told were read
-abbrev pub ReadsToEnd : Option (List ℕ) → Option (List ℕ) → Type 0
-ReadsToEnd before now = (text : List ℕ) → before ≡ Some text → now ≡ Some []
+-- and reading the shader with this one; a fault that is told of the text is one of the text
+abbrev pub EndsShader : Status → Type 0 → Type 0
+EndsShader status.Ok fault = ⊥
+EndsShader Usage fault = ⊥
+EndsShader (ReadFault Rules) fault = ⊥
+EndsShader (ReadFault Shader) fault = fault
+EndsShader WriteFault fault = ⊥
+EndsShader (RuleRefused refused) fault = ⊥
+EndsShader (ShaderSyntax of_text) fault = is_of_text of_text ≡ true
+EndsShader (ShaderInvalid rule item) fault = ⊤
+EndsShader (status.TooLong Rules) fault = ⊥
+EndsShader (status.TooLong Shader) fault = ⊤
+EndsShader OutOfMemory fault = ⊤
+EndsShader (NotBuilt Rules) fault = ⊥
+EndsShader (NotBuilt Shader) fault = ⊤

@@ -1,5 +1,8 @@
 -- What a run did that ended with the whole text or a front of it: which rules and which shader it read, and how each step of its journal made the shader that it printed.
-use Rattle.std.specs.Prelude.{◌≡◌, ◌+◌, ◌⊎◌, ℕ, true, false, List, [], length, Some, Ok}
+use Rattle.std.specs.Prelude.{◌≡◌, ◌+◌, ◌⊎◌, ℕ, true, false, List, [], length, Option, Some, Ok}
+use Rattle.nir_host.specs.Faults.{Rose}
+use Rattle.nir_host.specs.Told.{Gains}
+use Rattle.nir_host.specs.Whole.{TakesFront}
 use Rattle.nir_ir.specs.declared.journal.Step.{Step}
 use Rattle.nir_ir.specs.Shader.{Shader}
 use Rattle.nir_ir.specs.Shaped.{IsShaped}
@@ -7,13 +10,18 @@ use Rattle.rule_term.specs.declared.when.Options.{Options}
 use Rattle.rule_read.specs.RuleFile.{RuleFile}
 use Rattle.rule_check.specs.Accepted.{rules_of}
 use Rattle.nir_mean.specs.Same.{Same}
+use Rattle.nir_print.specs.Renumber.{renumber}
+use Rattle.nir_print.specs.RoundTrip.{IsTextOf, printed_names}
+use Rattle.nir_print.specs.Text.{text_of}
 use Rattle.nir_validate.specs.Valid.{Valid}
 use Rattle.nir_search.specs.Steps.{replay, is_settled}
 use Rattle.nir_search.specs.Weight.{weight_of}
 use Rattle.nir_opt.specs.declared.status.Report.{Report}
 use Rattle.nir_opt.specs.declared.status.Status.{Status}
-use Rattle.nir_opt.specs.declared.status.Status.TheVariants.{OutOfMemory}
-use Rattle.nir_opt.specs.Answers.{place_of, shader_answer}
+use Rattle.nir_opt.specs.declared.status.Status.TheVariants.{OutOfMemory, WriteFault}
+use Rattle.nir_opt.specs.declared.status.Status.TheVariants as status
+use Rattle.nir_opt.specs.declared.optimise.Work.{Work}
+use Rattle.nir_opt.specs.Answers.{has_plain_line, place_of, shader_answer}
 use Rattle.nir_opt.specs.FirstRules.{first_rules}
 
 -- no option is set
@@ -38,11 +46,31 @@ pub record IsWork (rules shader : List ℕ) (journal : List Step) (rewrites limi
   pub shaped : IsShaped last
   pub valid : Valid last
   pub same : Same read last
+  -- its text is in the grammar, and denotes it in text order
+  pub denotes : IsTextOf (text_of last) (printed_names last.body) (renumber last)
+  -- which is shaped and valid too, and means the same
+  pub printed_shaped : IsShaped (renumber last)
+  pub printed_valid : Valid (renumber last)
+  pub printed_same : Same read (renumber last)
 
--- a report of no work
+-- the text is that of the last shader of a run over these two texts
+abbrev pub PrintsWork : List ℕ → List ℕ → Work → Type 0
+PrintsWork rules shader work = (last : Shader) × IsWork rules shader work.journal work.rewrites work.limit last × (work.text ≡ text_of last)
+
+-- a sink took the text whole, or a front of it and a fault was counted
+abbrev pub Writes : Status → List ℕ → Option (List ℕ) → Option (List ℕ) → ℕ → ℕ → Type 0
+Writes ending text before now faults_before faults_now =
+    ((ending ≡ status.Ok) × Gains before now text)
+    ⊎ ((ending ≡ WriteFault) × Rose faults_before faults_now × ((taken : List ℕ) → before ≡ Some taken → TakesFront taken now text))
+
+-- the report of work that was done
+abbrev pub worked : Status → Work → Report
+worked status work = record { status = status; journal = work.journal; rewrites = work.rewrites; limit = work.limit; stopped = false; place = 0 }
+
+-- the report of no work
 abbrev pub idle : Status → Report
 idle status = record { status = status; journal = []; rewrites = 0; limit = 0; stopped = false; place = place_of status }
 
--- the report of no work with a status whose line is built, unless there was no memory for it
+-- the report of no work with this status; where its line is built, for want of memory for the line with that
 abbrev pub IsTold : Status → Report → Type 0
-IsTold status report = (report ≡ idle status) ⊎ (report ≡ idle OutOfMemory)
+IsTold status report = (report ≡ idle status) ⊎ ((report ≡ idle OutOfMemory) × (has_plain_line status ≡ false))

@@ -1,15 +1,14 @@
 //! The line of each status.
 
-ghost use Rattle.std.specs.Prelude.{◌≡◌, ◌++◌, true, IfOk, OnOk, codes, decimal};
-ghost use Rattle.nir_opt.specs.Answers.{at_values, cause_text, has_plain_line, line_of, typing_text, values_text};
+ghost use Rattle.std.specs.Prelude.{◌≡◌, ◌++◌, true, false, not, is_some, IfOk, IfSome, OnErr, OnOk};
+ghost use Rattle.nir_opt.specs.Answers.{at_values, cause_text, has_plain_line, line_of, typing_text};
 
 use crate::status::Status;
-use itoa::Buffer;
 use nir_host::{Bytes, OutOfMemory, Which};
-use nir_mean::{fault_place, fault_what};
-use nir_text::TextFault;
+use nir_mean::{invalid_line, syntax_line};
 use rule_check::{Refused, RuleCause};
 use std::alloc::Global;
+use text_bytes::{push, push_number, push_numbers};
 
 /// The line of a status that names neither a rule nor a place, with its line feed; nothing for Ok.
 pub fn plain_line(status: &Status) -> &'static [u8]
@@ -33,35 +32,35 @@ pub fn plain_line(status: &Status) -> &'static [u8]
     }
 }
 
-/// Adds bytes as they are.
-fn push(out: &mut Vec<u8>, text: &[u8]) -> Result<(), OutOfMemory>
-    ensures { OnOk result (out.new.items ≡ out.old.items ++ text.now) }
+/// The line of a status that names a rule or a place, with its line feed; None for every other status.
+pub fn built_line(alloc: Global, status: &Status) -> Result<Option<Bytes>, OutOfMemory>
+    ensures line { IfOk result (λ built. IfSome built (λ line. line ≡ line_of status.now)) }
+    ensures built { IfOk result (λ built. is_some built ≡ not (has_plain_line status.now)) }
+    ensures no_memory { OnErr result (has_plain_line status.now ≡ false) }
 {
-    match out.extend_from_slice(text) {
-        Ok(()) => Ok(()),
-        Err(_failed) => Err(OutOfMemory),
+    match status {
+        Status::RuleRefused(refused) => Ok(Some(refusal_line(alloc, refused)?)),
+        Status::ShaderSyntax(fault) => Ok(Some(syntax_line(alloc, fault)?)),
+        Status::ShaderInvalid { rule, item } => Ok(Some(invalid_line(alloc, *rule, *item)?)),
+        Status::Ok
+        | Status::Usage
+        | Status::ReadFault(_)
+        | Status::WriteFault
+        | Status::TooLong(_)
+        | Status::OutOfMemory
+        | Status::NotBuilt(_) => Ok(None),
     }
 }
 
-/// Adds a number in unsigned decimal.
-fn push_number(out: &mut Vec<u8>, number: u64) -> Result<(), OutOfMemory>
-    ensures { OnOk result (out.new.items ≡ out.old.items ++ decimal number) }
-{
-    let mut buffer = Buffer::new();
-    push(out, buffer.format(number).as_bytes())
-}
-
-/// Adds numbers with a comma and a blank between them.
-fn push_values(out: &mut Vec<u8>, values: &[u64]) -> Result<(), OutOfMemory>
-    ensures { OnOk result (out.new.items ≡ out.old.items ++ values_text values.now) }
+/// Adds the values at which the sides of a rule differ, where there are some.
+fn push_at_values(out: &mut Vec<u8>, values: &[u64]) -> Result<(), OutOfMemory>
+    ensures { OnOk result (out.new.items ≡ out.old.items ++ at_values values.now) }
 {
     match values {
         [] => Ok(()),
-        [value] => push_number(out, *value),
-        [value, rest @ ..] => {
-            push_number(out, *value)?;
-            push(out, b", ")?;
-            push_values(out, rest)
+        [_, ..] => {
+            push(out, b" at ")?;
+            push_numbers(out, values)
         }
     }
 }
@@ -73,11 +72,7 @@ fn push_cause(out: &mut Vec<u8>, cause: &RuleCause) -> Result<(), OutOfMemory>
     match cause {
         RuleCause::Cases(values) => {
             push(out, b"cases differ")?;
-            if values.as_slice().is_empty() {
-                return Ok(());
-            }
-            push(out, b" at ")?;
-            push_values(out, values.as_slice())
+            push_at_values(out, values.as_slice())
         }
         RuleCause::TooManyCases => push(out, b"too many cases"),
     }
@@ -106,32 +101,6 @@ pub fn refusal_line(alloc: Global, refused: &Refused) -> Result<Bytes, OutOfMemo
     push_typing(&mut out, refused.typing)?;
     push(&mut out, b": ")?;
     push_cause(&mut out, &refused.cause)?;
-    push(&mut out, b"\n")?;
-    Ok(Bytes::from_vec(out))
-}
-
-/// The line for a fault of the shader text, with its line feed.
-pub fn fault_line(alloc: Global, fault: &TextFault) -> Result<Bytes, OutOfMemory>
-    ensures { IfOk result (λ line. line ≡ line_of (Status.ShaderSyntax fault.now)) }
-{
-    let mut out = Vec::new(alloc);
-    push(&mut out, b"shader: byte ")?;
-    push_number(&mut out, fault_place(fault))?;
-    push(&mut out, b": ")?;
-    push(&mut out, fault_what(fault))?;
-    push(&mut out, b"\n")?;
-    Ok(Bytes::from_vec(out))
-}
-
-/// The line for the first rule that a shader breaks, with its line feed.
-pub fn invalid_line(alloc: Global, rule: u8, item: u64) -> Result<Bytes, OutOfMemory>
-    ensures { IfOk result (λ line. line ≡ line_of (Status.ShaderInvalid rule item)) }
-{
-    let mut out = Vec::new(alloc);
-    push(&mut out, b"shader: V")?;
-    push_number(&mut out, u64::from(rule))?;
-    push(&mut out, b" at item ")?;
-    push_number(&mut out, item)?;
     push(&mut out, b"\n")?;
     Ok(Bytes::from_vec(out))
 }

@@ -1,20 +1,17 @@
 //! The optimiser of shader texts, `nir_opt RULES < SHADER`, and their evaluator, `nir_opt eval --turns=N < SHADER`.
 #![tactic(auto)]
 
-#[cfg(test)]
-mod eval_tests;
 mod first_form;
 mod first_rules;
 mod lines;
 mod optimise;
 mod program;
+mod report;
 mod run;
 mod status;
 #[cfg(test)]
 mod tests;
 mod texts;
-#[cfg(test)]
-mod validity_tests;
 mod words;
 
 ghost use Rattle.std.specs.Prelude.{◌≡◌, ◌<◌};

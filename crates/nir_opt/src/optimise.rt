@@ -1,6 +1,6 @@
-//! The work on a shader: rules are used until none matches.
+//! The work on a shader: rules are used until none matches, and the last shader is printed.
 
-ghost use Rattle.std.specs.Prelude.{◌≡◌, ◌+◌, ◌<◌, true, IfOk, length, Some};
+ghost use Rattle.std.specs.Prelude.{◌≡◌, ◌+◌, ◌<◌, ◌≤◌, ℕ, List, true, IfOk, length, Ok, Some};
 ghost use Rattle.std.specs.List.{list_all};
 ghost use Rattle.nir_search.specs.Steps.{replay, is_settled};
 ghost use Rattle.nir_search.specs.Weight.{weight_of};
@@ -10,15 +10,27 @@ ghost use Rattle.rule_meaning.specs.StepSame.{AllFormed};
 ghost use Rattle.nir_ir.specs.Shaped.{IsShaped};
 ghost use Rattle.nir_mean.specs.Same.{Same};
 ghost use Rattle.nir_validate.specs.Valid.{Valid};
+ghost use Rattle.nir_opt.specs.Answers.{shader_answer};
 ghost use Rattle.nir_opt.specs.FirstForm.{is_first_form};
+ghost use Rattle.nir_opt.specs.FirstRules.{first_rules};
+ghost use Rattle.nir_opt.specs.Texts.{IsTableOf};
+ghost use Rattle.nir_opt.specs.Work.{PrintsWork};
 
-use nir_host::OutOfMemory;
+use crate::first_form::Built;
+use nir_host::{Bytes, OutOfMemory};
 use nir_ir::{Journal, Shader};
+use nir_print::print_shader;
 use nir_search::Steps;
+use print_meaning::{
+    renumbering_keeps_meaning, renumbering_keeps_shape, renumbering_keeps_validity,
+};
 use rewrite_pass::rewrite_all;
-use rule_term::{Options, Table};
+use rule_term::{Names, Options, Table};
 use std::alloc::Global;
 use std::sync::ledger::Ledger;
+
+/// How many rewrites there may be beside the weight of the shader.
+const SPARE_REWRITES: u64 = 4_096;
 
 /// Visits each rule of the table: its type says that it is formed, and the table's that it holds.
 fn all_hold(table: &Table)
@@ -70,5 +82,47 @@ pub fn optimise<L: Ledger>(
         shader: done.shader,
         journal,
         rewrites: done.rewrites,
+    })
+}
+
+/// The text of the last shader, the steps to that shader, how many of them were rewrites, and the limit on these.
+#[derive(Debug, Drop)]
+pub struct Work {
+    pub text: Bytes,
+    pub journal: Journal,
+    pub rewrites: u64,
+    pub limit: u64,
+}
+
+/// Does the work on a shader, with no option set, and prints the last one.
+pub fn printed_work<L: Ledger>(
+    alloc: Global,
+    built: Built,
+    table: &Table,
+    steps: &mut Steps<L>,
+) -> Result<Work, OutOfMemory>
+    requires built { list_all is_built table.now.rules ≡ true }
+    requires weight { built.weight ≡ weight_of built.shader }
+    requires few { built.weight ≤ 256 }
+    requires form { is_first_form built.shader ≡ true }
+    requires valid { Valid built.shader }
+    ensures { IfOk result (λ work. (rule_text shader_text : List ℕ) → IsTableOf (first_rules rule_text) table.now → shader_answer shader_text ≡ Ok built.shader →
+        PrintsWork rule_text shader_text work) }
+{
+    // The proof learns what numbering in text order keeps.
+    renumbering_keeps_shape();
+    renumbering_keeps_validity();
+    renumbering_keeps_meaning();
+    let limit = built.weight + SPARE_REWRITES;
+    let options = Options {
+        names: Names::new(alloc),
+    };
+    let done = optimise(alloc, built.shader, table, &options, limit, steps)?;
+    let text = print_shader(alloc, &done.shader)?;
+    Ok(Work {
+        text,
+        journal: done.journal,
+        rewrites: done.rewrites,
+        limit,
     })
 }

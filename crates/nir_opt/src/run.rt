@@ -1,6 +1,6 @@
 //! The top call: bytes in, bytes out.
 
-ghost use Rattle.std.specs.Prelude.{◌≡◌, ℕ, ◌+◌, ◌↔◌, ◌≢◌, ◌++◌, IfOk, IsOk, List, [], Some, false, true};
+ghost use Rattle.std.specs.Prelude.{◌≡◌, ℕ, ◌↔◌, ◌≢◌, ◌++◌, IsOk, List, [], Some, false, true};
 ghost use Rattle.nir_host.specs.Faults.{Rose};
 ghost use Rattle.nir_host.specs.Told.{Gains};
 ghost use Rattle.nir_host.specs.Whole.{TakesFront};
@@ -8,28 +8,22 @@ ghost use Rattle.nir_ir.specs.Shader.{Shader};
 ghost use Rattle.nir_print.specs.Text.{text_of};
 ghost use Rattle.nir_text.specs.declared.fault.TextFault.{TextFault};
 ghost use Rattle.nir_mean.specs.Faults.{is_of_text};
-ghost use Rattle.nir_opt.specs.Answers.{AreAccepted, EndsWell, has_plain_line, is_of_rules, has_reading, place_of, RulesFit, ShaderFits, line_of, shader_answer};
+ghost use Rattle.nir_mean.specs.ShaderText.{ReadsToEnd};
+ghost use Rattle.nir_opt.specs.Answers.{AreAccepted, EndsWell, is_of_rules, has_reading, place_of, RulesFit, ShaderFits, line_of, shader_answer};
 ghost use Rattle.nir_opt.specs.FirstRules.{first_rules};
-ghost use Rattle.nir_opt.specs.Texts.{ReadsToEnd};
-ghost use Rattle.nir_opt.specs.Work.{IsTold, IsWork};
+ghost use Rattle.nir_opt.specs.Ran.{Ran};
+ghost use Rattle.nir_opt.specs.Work.{IsWork};
 
-use crate::lines::{fault_line, invalid_line, plain_line, refusal_line};
-use crate::optimise::optimise;
+use crate::optimise::printed_work;
+use crate::report::{finished, stopped};
 use crate::status::{Report, Status};
-use crate::texts::{Refusal, ShaderRefusal, read_rules_text, read_shader_text};
+use crate::texts::{read_shader_text, read_table};
 use crate::words::has_reading;
-use nir_host::{Bytes, OutOfMemory, Sink, Source, Which, write_all};
-use nir_ir::Journal;
-use nir_print::print_shader;
+use nir_host::{Bytes, Sink, Source, Which};
 use nir_search::Steps;
 use nir_text::TextFault;
-use rule_check::{CheckFault, Refused, check_file};
-use rule_term::{Names, Options};
 use std::alloc::Global;
 use std::sync::ledger::Ledger;
-
-/// How many rewrites there may be beside the weight of the shader.
-const SPARE_REWRITES: u64 = 4_096;
 
 /// Reads the rules and the shader, uses the rules until none matches, and prints the last shader: the whole text in one
 /// writing at the end.
@@ -86,151 +80,39 @@ pub fn run<R: Source, S: Source, K: Sink, N: Sink, L: Ledger>(
     ensures stopped { result.stopped ≡ false }
     ensures place { result.place ≡ place_of result.status }
 {
+    run_in_stages(alloc, words, rules, shader, out, notes, steps)
+}
+
+/// The same, with all that it promises as one fact.
+fn run_in_stages<R: Source, S: Source, K: Sink, N: Sink, L: Ledger>(
+    alloc: Global,
+    words: &[Bytes],
+    rules: &mut R,
+    shader: &mut S,
+    out: &mut K,
+    notes: &mut N,
+    steps: &mut Steps<L>,
+) -> Report
+    ensures { Ran words.now
+        (record { left_before = R.left rules.old; left_after = R.left rules.new; faults_before = R.faults rules.old; faults_after = R.faults rules.new })
+        (record { left_before = S.left shader.old; left_after = S.left shader.new; faults_before = S.faults shader.old; faults_after = S.faults shader.new })
+        (record { taken_before = K.taken out.old; taken_after = K.taken out.new; faults_before = K.faults out.old; faults_after = K.faults out.new })
+        (record { taken_before = N.taken notes.old; taken_after = N.taken notes.new; faults_before = N.faults notes.old; faults_after = N.faults notes.new })
+        result }
+{
     if !has_reading(words) {
-        return ended(alloc, notes, Status::Usage);
+        return stopped(alloc, notes, Status::Usage);
     }
-    let file = match read_rules_text(alloc, rules) {
-        Ok(file) => file,
-        Err(Refusal::ReadFault) => return ended(alloc, notes, Status::ReadFault(Which::Rules)),
-        Err(Refusal::NotBuilt) => return ended(alloc, notes, Status::NotBuilt(Which::Rules)),
-        Err(Refusal::OutOfMemory) => return ended(alloc, notes, Status::OutOfMemory),
-    };
-    let table = match check_file(alloc, file) {
+    let table = match read_table(alloc, rules) {
         Ok(table) => table,
-        Err(CheckFault::Refused(rule)) => return refused(alloc, notes, rule),
-        Err(CheckFault::OutOfMemory) => return ended(alloc, notes, Status::OutOfMemory),
+        Err(status) => return stopped(alloc, notes, status),
     };
     let built = match read_shader_text(alloc, shader) {
         Ok(built) => built,
-        Err(ShaderRefusal::ReadFault) => {
-            return ended(alloc, notes, Status::ReadFault(Which::Shader));
-        }
-        Err(ShaderRefusal::TooLong) => return ended(alloc, notes, Status::TooLong(Which::Shader)),
-        Err(ShaderRefusal::Syntax(fault)) => return misspelt(alloc, notes, fault),
-        Err(ShaderRefusal::Invalid { rule, item }) => return invalid(alloc, notes, rule, item),
-        Err(ShaderRefusal::NotBuilt) => return ended(alloc, notes, Status::NotBuilt(Which::Shader)),
-        Err(ShaderRefusal::OutOfMemory) => return ended(alloc, notes, Status::OutOfMemory),
+        Err(status) => return stopped(alloc, notes, status),
     };
-    let limit = built.weight + SPARE_REWRITES;
-    let options = Options {
-        names: Names::new(alloc),
+    let Ok(work) = printed_work(alloc, built, &table, steps) else {
+        return stopped(alloc, notes, Status::OutOfMemory);
     };
-    let Ok(done) = optimise(alloc, built.shader, &table, &options, limit, steps) else {
-        return ended(alloc, notes, Status::OutOfMemory);
-    };
-    let Ok(text) = print_shader(alloc, &done.shader) else {
-        return ended(alloc, notes, Status::OutOfMemory);
-    };
-    match write_all(out, text.as_slice()) {
-        Ok(()) => finished(notes, Status::Ok, done.journal, done.rewrites, limit),
-        Err(_fault) => finished(
-            notes,
-            Status::WriteFault,
-            done.journal,
-            done.rewrites,
-            limit,
-        ),
-    }
-}
-
-/// Writes a line to `notes`, whose faults change nothing.
-fn note<N: Sink>(notes: &mut N, line: &[u8])
-    ensures { (before : List ℕ) → N.taken notes.old ≡ Some before →
-        (Rose (N.faults notes.old) (N.faults notes.new) → ⊥) → N.taken notes.new ≡ Some (before ++ line.now) }
-{
-    match write_all(notes, line) {
-        Ok(()) => {}
-        Err(_fault) => {}
-    }
-}
-
-/// The report of a run that did its work. The line of its status goes to `notes`.
-fn finished<N: Sink>(
-    notes: &mut N,
-    status: Status,
-    journal: Journal,
-    rewrites: u64,
-    limit: u64,
-) -> Report
-    requires { has_plain_line status ≡ true }
-    ensures report { result ≡ record { status = status; journal = journal; rewrites = rewrites; limit = limit; stopped = false; place = 0 } }
-    ensures notes { (before : List ℕ) → N.taken notes.old ≡ Some before →
-        (Rose (N.faults notes.old) (N.faults notes.new) → ⊥) → N.taken notes.new ≡ Some (before ++ line_of status) }
-{
-    note(notes, plain_line(&status));
-    Report {
-        status,
-        journal,
-        rewrites,
-        limit,
-        stopped: false,
-        place: 0,
-    }
-}
-
-/// The report of a run that did no work. The line of its status goes to `notes`.
-fn ended<N: Sink>(alloc: Global, notes: &mut N, status: Status) -> Report
-    requires { has_plain_line status ≡ true }
-    ensures report { result ≡ record { status = status; journal = []; rewrites = 0; limit = 0; stopped = false; place = 0 } }
-    ensures notes { (before : List ℕ) → N.taken notes.old ≡ Some before →
-        (Rose (N.faults notes.old) (N.faults notes.new) → ⊥) → N.taken notes.new ≡ Some (before ++ line_of status) }
-{
-    finished(notes, status, Journal::new(alloc), 0, 0)
-}
-
-/// The report of a run that did no work, with a status whose line was built, or had no memory for the line.
-fn told<N: Sink>(
-    alloc: Global,
-    notes: &mut N,
-    status: Status,
-    line: Result<Bytes, OutOfMemory>,
-) -> Report
-    requires line { IfOk line (λ line. line ≡ line_of status) }
-    ensures report { IsTold status result }
-    ensures notes { (before : List ℕ) → N.taken notes.old ≡ Some before →
-        (Rose (N.faults notes.old) (N.faults notes.new) → ⊥) → N.taken notes.new ≡ Some (before ++ line_of result.status) }
-{
-    let Ok(line) = line else {
-        return ended(alloc, notes, Status::OutOfMemory);
-    };
-    note(notes, line.as_slice());
-    let place = status.place();
-    Report {
-        status,
-        journal: Journal::new(alloc),
-        rewrites: 0,
-        limit: 0,
-        stopped: false,
-        place,
-    }
-}
-
-/// The report of a run that found a rule which is not accepted.
-fn refused<N: Sink>(alloc: Global, notes: &mut N, rule: Refused) -> Report
-    ensures report { IsTold (Status.RuleRefused rule) result }
-    ensures notes { (before : List ℕ) → N.taken notes.old ≡ Some before →
-        (Rose (N.faults notes.old) (N.faults notes.new) → ⊥) → N.taken notes.new ≡ Some (before ++ line_of result.status) }
-{
-    let line = refusal_line(alloc, &rule);
-    told(alloc, notes, Status::RuleRefused(rule), line)
-}
-
-/// The report of a run that found a fault of the shader text.
-fn misspelt<N: Sink>(alloc: Global, notes: &mut N, fault: TextFault) -> Report
-    ensures report { IsTold (Status.ShaderSyntax fault) result }
-    ensures notes { (before : List ℕ) → N.taken notes.old ≡ Some before →
-        (Rose (N.faults notes.old) (N.faults notes.new) → ⊥) → N.taken notes.new ≡ Some (before ++ line_of result.status) }
-{
-    let line = fault_line(alloc, &fault);
-    told(alloc, notes, Status::ShaderSyntax(fault), line)
-}
-
-/// The report of a run that found a shader which is not valid.
-fn invalid<N: Sink>(alloc: Global, notes: &mut N, rule: u8, item: u64) -> Report
-    ensures report { IsTold (Status.ShaderInvalid rule item) result }
-    ensures notes { (before : List ℕ) → N.taken notes.old ≡ Some before →
-        (Rose (N.faults notes.old) (N.faults notes.new) → ⊥) → N.taken notes.new ≡ Some (before ++ line_of result.status) }
-{
-    let line = invalid_line(alloc, rule, item);
-    told(alloc, notes, Status::ShaderInvalid { rule, item }, line)
+    finished(out, notes, work)
 }

@@ -1,7 +1,7 @@
 use Rattle.std.proofs.Common.{sym, ap, ◌∙◌}
 use Rattle.std.specs.Option.{option_map}
 use Rattle.nir_opt.specs.declared.first_form.Built.{Built}
-use Rattle.nir_opt.proofs.Long.{answer_built, answer_other}
+use Rattle.nir_opt.proofs.TextAnswers.{answer_built, answer_other}
 use Rattle.nir_opt.proofs.texts.built_text.Goals as goal
 
 pub returns-in-Ok-Some-clause-text : goal.returns-in-Ok-Some-clause-text

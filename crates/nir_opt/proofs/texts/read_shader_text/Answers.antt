@@ -1,7 +1,7 @@
 use Rattle.std.proofs.Common.{subst}
 use Rattle.std.specs.Prelude.{Err}
 use Rattle.nir_mean.specs.ShaderText.{AreRead}
-use Rattle.nir_opt.proofs.Long.{answer_long}
+use Rattle.nir_opt.proofs.TextAnswers.{answer_long}
 use Rattle.nir_opt.proofs.texts.read_shader_text.Goals as goal
 
 pub returns-in-Err-TooLong-clause-text : goal.returns-in-Err-TooLong-clause-text

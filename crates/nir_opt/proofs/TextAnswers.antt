@@ -1,6 +1,6 @@
 -- What is answered on a text by its length, its fault, the rule that its shader breaks, or its form.
 use Rattle.std.proofs.Common.{◌≡◌, ℕ, ◌<◌, List, ◌++◌, length, None, Some, refl, sym, ap, ◌∙◌, arith, length-append}
-use Rattle.std.specs.Prelude.{Bool, true, false, Ok, Err, if◌then◌else◌}
+use Rattle.std.specs.Prelude.{Bool, true, false, Result, Ok, Err, OnOk, if◌then◌else◌}
 use Rattle.std.proofs.lemmas.Bool.{lt-leb}
 use Rattle.std.proofs.lemmas.Option.{none-some, same_Some}
 use Rattle.nir_host.specs.declared.fault.Which.TheVariants as which
@@ -20,6 +20,11 @@ first_rules-long text long = rw (lt-leb (length text) 65536 long) refl
 -- what was taken is no longer than the whole
 pub longer : (text taken rest : List ℕ) (max : ℕ) → text ≡ taken ++ rest → max < length taken → max < length text
 longer text taken rest max parts more = omega (arith, ap length parts, length-append taken rest)
+
+-- what holds in any case holds on Ok
+pub on_ok : (A B fact : Type 0) (result : Result A B) → fact → OnOk result fact
+on_ok A B fact (Ok value) holds = holds
+on_ok A B fact (Err fault) holds = tt
 
 pub answer_long : (text : List ℕ) → answer_of text ≡ answer.TooLong → shader_answer text ≡ Err (TooLong which.Shader)
 unfolding shader_answer

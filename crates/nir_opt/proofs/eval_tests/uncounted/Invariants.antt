@@ -1,4 +1,0 @@
-use Rattle.nir_opt.proofs.eval_tests.uncounted.Given as goal
-
-abbrev pub ghosts-ran : goal.ghosts-ran
-ghosts-ran a = record { name = a.blank.name; parts = a.blank.parts }

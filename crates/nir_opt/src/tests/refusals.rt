@@ -1,0 +1,312 @@
+//! Words and texts that are refused, and sources and sinks that fail.
+
+use super::rewriting::REWRITTEN;
+use super::texts::{DOT, EMPTY_BLOCK, RULE, SIGNED_LEAST, WIDE};
+use super::{Case, NO_RULES, PRINTED, REFUSED, Text, all_end, uncounted};
+use nir_host::OutOfMemory;
+use std::alloc::Global;
+
+/// Words without a reading.
+const UNREAD: Case<'static> = Case {
+    number: 2,
+    notes: b"usage: nir_opt RULES [--limit=N] [--option=NAME] [--remarks] [--skip]\n",
+    ..REFUSED
+};
+
+static USAGE: [Case; 4] = [
+    Case {
+        words: &[],
+        ..UNREAD
+    },
+    Case {
+        words: &[b"--skip"],
+        ..UNREAD
+    },
+    Case {
+        words: &[b"r", b"--skip"],
+        ..UNREAD
+    },
+    Case {
+        words: &[b"r", b"s"],
+        ..UNREAD
+    },
+];
+
+#[test]
+fn words_without_a_reading_are_refused(rt: HostRuntime) {
+    all_end(&rt, rt.alloc(), &USAGE);
+}
+
+/// A shader that is valid and not built.
+const NO_FORM: Case<'static> = Case {
+    number: 12,
+    notes: b"not built: shader\n",
+    ..REFUSED
+};
+
+/// Rules that are not built, before a shader that is not.
+const NEITHER: Case<'static> = Case {
+    shader: Text::Whole(WIDE),
+    ..NO_RULES
+};
+
+static OTHER_RULES: [Case; 13] = [
+    Case {
+        rules: Text::Whole(b"[(('iadd', 'a', 0), 'a'), by * cases]"),
+        ..NEITHER
+    },
+    Case {
+        rules: Text::Whole(b"[(('iadd', 'a@8', 0), 'a')]"),
+        ..NEITHER
+    },
+    Case {
+        rules: Text::Whole(b"[(('mov', 'a@8'), 'a'), by * cases]"),
+        ..NEITHER
+    },
+    Case {
+        rules: Text::Whole(b"[(('imin', 'a@8', 'a'), 'a'), by * cases]"),
+        ..NEITHER
+    },
+    Case {
+        rules: Text::Whole(b"[(('iadd', 'a@8', 'b'), ('iadd', 'b', 'a')), by * cases]"),
+        ..NEITHER
+    },
+    Case {
+        rules: Text::Whole(b"[(('iand', 'a@8', 0), False), by * cases]"),
+        ..NEITHER
+    },
+    Case {
+        rules: Text::Whole(b"[(('iand', 'a@8', 0), -129), by * cases]"),
+        ..NEITHER
+    },
+    Case {
+        rules: Text::Whole(b"[(('iand', 'a@8', 0), 256), by * cases]"),
+        ..NEITHER
+    },
+    Case {
+        rules: Text::Whole(b"[(('iadd', '#a@8', 0), 'a'), by * cases]"),
+        ..NEITHER
+    },
+    Case {
+        rules: Text::Whole(b"[(('iadd', 'a@8(is_not_const)', 0), 'a'), by * cases]"),
+        ..NEITHER
+    },
+    Case {
+        rules: Text::Whole(b"[(('inot', ('inot', ('inot', ('inot', 'a@8')))), 'a'), by * cases]"),
+        ..NEITHER
+    },
+    Case {
+        rules: Text::Whole(b"[(('iadd', 1, 2), 3), by * cases]"),
+        ..NEITHER
+    },
+    Case {
+        rules: Text::Whole(b"[(('iand', ('iand', 'a@8', 'b'), ('iand', 'c', 0)), 0), by * cases]"),
+        ..NEITHER
+    },
+];
+
+static OTHER_TEXTS: [Case; 5] = [
+    Case {
+        rules: Text::Whole(b"[]]"),
+        ..NO_RULES
+    },
+    Case {
+        shader: Text::Whole(SIGNED_LEAST),
+        ..NO_FORM
+    },
+    Case {
+        rules: Text::Whole(RULE),
+        shader: Text::Whole(WIDE),
+        ..NO_FORM
+    },
+    Case {
+        shader: Text::Whole(WIDE),
+        ..NO_FORM
+    },
+    Case {
+        shader: Text::Whole(DOT),
+        ..NO_FORM
+    },
+];
+
+#[test]
+fn other_texts_are_not_built(rt: HostRuntime) {
+    all_end(&rt, rt.alloc(), &OTHER_RULES);
+    all_end(&rt, rt.alloc(), &OTHER_TEXTS);
+}
+
+/// Texts that are not in the grammar.
+const MISSPELT: Case<'static> = Case {
+    number: 7,
+    ..REFUSED
+};
+
+static FAULTS: [Case; 8] = [
+    Case {
+        shader: Text::Whole(b"shader\ninputs []\noutputs []\nbuffers 0\n{\n  block b0 {\n  }\n"),
+        place: 57,
+        notes: b"shader: byte 57: unexpected\n",
+        ..MISSPELT
+    },
+    Case {
+        shader: Text::Whole(
+            b"shader\ninputs [w8x6]\noutputs []\nbuffers 0\n{\n  block b0 {\n  }\n}\n",
+        ),
+        place: 15,
+        notes: b"shader: byte 15: unexpected\n",
+        ..MISSPELT
+    },
+    Case {
+        shader: Text::Whole(
+            b"shader\ninputs []\noutputs []\nbuffers 0\n{\n  block b0 ! {\n  }\n}\n",
+        ),
+        place: 51,
+        notes: b"shader: byte 51: bad byte\n",
+        ..MISSPELT
+    },
+    Case {
+        shader: Text::Whole(
+            b"shader\ninputs []\noutputs []\nbuffers 0x\n{\n  block b0 {\n  }\n}\n",
+        ),
+        place: 36,
+        notes: b"shader: byte 36: bad number\n",
+        ..MISSPELT
+    },
+    Case {
+        shader: Text::Whole(
+            b"shader\ninputs []\noutputs []\nbuffers 17\n{\n  block b0 {\n  }\n}\n",
+        ),
+        place: 36,
+        notes: b"shader: byte 36: too many\n",
+        ..MISSPELT
+    },
+    Case {
+        shader: Text::Whole(b"shader inputs [] outputs [] buffers 0 { block b { } block b { } }"),
+        place: 58,
+        notes: b"shader: byte 58: named twice\n",
+        ..MISSPELT
+    },
+    Case {
+        shader: Text::Whole(
+            b"shader\ninputs [w8x1]\noutputs [w8x1]\nbuffers 0\n{\n  block b0 {\n    %0 = input w8x1 @0\n    %1 = cnst w8x1 (0)\n    %2 = iadd w8x1 %0, %1\n    output @0, %2\n  }\n}\n",
+        ),
+        place: 93,
+        notes: b"shader: byte 93: unknown opcode\n",
+        ..MISSPELT
+    },
+    Case {
+        shader: Text::Whole(
+            b"shader\ninputs [w8x1]\noutputs [w8x1]\nbuffers 0\n{\n  block b0 {\n    %0 = input w8x1 @0\n    %1 = const w8x1 (0)\n    %2 = iadd w8x1 %0, %1\n    output @0, %9\n  }\n}\n",
+        ),
+        place: 149,
+        notes: b"shader: byte 149: unknown name\n",
+        ..MISSPELT
+    },
+];
+
+#[test]
+fn the_first_fault_of_a_shader_text_is_told(rt: HostRuntime) {
+    all_end(&rt, rt.alloc(), &FAULTS);
+}
+
+static TOO_DEEP: [Case; 1] = [Case {
+    shader: Text::Repeated {
+        front: b"shader\ninputs []\noutputs []\nbuffers 0\n{",
+        piece: b"loop {",
+        times: 64,
+        end: b"",
+    },
+    place: 422,
+    notes: b"shader: byte 422: too deep\n",
+    ..MISSPELT
+}];
+
+#[test]
+fn lists_are_at_most_64_deep(rt: HostRuntime) {
+    all_end(&rt, rt.alloc(), &TOO_DEEP);
+}
+
+static LEAST_SHADER: Case = PRINTED;
+
+/// The number with which the case ends on another shader.
+fn number_on<'a>(alloc: Global, shader: &'a [u8], case: &Case<'a>) -> Result<u8, OutOfMemory> {
+    let shader = Text::Whole(shader);
+    let left = uncounted(alloc, &Case { shader, ..*case })?;
+    Ok(left.ended.number())
+}
+
+#[test]
+fn a_front_of_a_shader_text_is_none(rt: HostRuntime) {
+    for length in 0..60 {
+        let front = EMPTY_BLOCK.split_at(length).0;
+        let number = if length < 58 { 7 } else { 0 };
+        let told = number_on(rt.alloc(), front, &LEAST_SHADER).expect(&rt, "memory");
+        assert_eq!(rt; told, number);
+    }
+}
+
+/// Blanks behind a shader of 59 bytes.
+static LONG: [Case; 3] = [
+    Case {
+        shader: Text::Repeated {
+            front: EMPTY_BLOCK,
+            piece: b" ",
+            times: 65_477,
+            end: b"",
+        },
+        ..PRINTED
+    },
+    Case {
+        shader: Text::Repeated {
+            front: EMPTY_BLOCK,
+            piece: b" ",
+            times: 65_478,
+            end: b"",
+        },
+        ..NO_FORM
+    },
+    Case {
+        shader: Text::Repeated {
+            front: EMPTY_BLOCK,
+            piece: b" ",
+            times: 4_194_246,
+            end: b"",
+        },
+        number: 9,
+        notes: b"too long: shader\n",
+        ..REFUSED
+    },
+];
+
+#[test]
+fn long_shader_texts_are_not_built(rt: HostRuntime) {
+    assert_eq!(rt; EMPTY_BLOCK.len(), 59);
+    all_end(&rt, rt.alloc(), &LONG);
+}
+
+static ENDED: [Case; 3] = [
+    Case {
+        rules_fail: &[0],
+        number: 3,
+        notes: b"read failed: rules\n",
+        ..REFUSED
+    },
+    Case {
+        shader_fail: &[0],
+        number: 3,
+        notes: b"read failed: shader\n",
+        ..REFUSED
+    },
+    Case {
+        room: 10,
+        number: 4,
+        out: b"shader\ninp",
+        notes: b"write failed\n",
+        ..REWRITTEN
+    },
+];
+
+#[test]
+fn faults_end_a_run(rt: HostRuntime) {
+    all_end(&rt, rt.alloc(), &ENDED);
+}
