@@ -7,6 +7,7 @@ time is past its limit or a printed text is not the text that was read, and 2 wh
 It takes some minutes where the crates have not been proved on this machine before.
 """
 import os
+import string
 import subprocess
 import sys
 import tempfile
@@ -15,6 +16,7 @@ import checkout
 
 MANY_VALUES = 16_384
 MANY_BYTES = 4_194_304
+MANY_SOURCES = 64_000
 DEPTH = 32
 
 
@@ -120,6 +122,22 @@ class Nested:
         return "\n".join(["shader", "inputs [w32x1]", "outputs [w32x1]", "buffers 0", "{", *self.lines, "}", ""])
 
 
+def block_word(at):
+    """The name of a block, short so that many fit in a text."""
+    letters = string.ascii_letters
+    return "".join(letters[at // len(letters) ** place % len(letters)] for place in (3, 2, 1, 0))
+
+
+def sources(count):
+    """A loop that goes back from so many blocks, and in its first block a phi with a source for each and one for the entry."""
+    entry, first, end = (block_word(at) for at in range(3))
+    blocks = [[block_word(3 * at + place) for place in range(3)] for at in range(1, count + 1)]
+    phi = ",".join(f"{block}:%0" for block in [entry, *(back for back, _, _ in blocks)])
+    ifs = [f"if%1{{block {back}{{continue}}}}else{{block {other}{{}}}}block {behind}{{{'break' if at + 1 == count else ''}}}" for at, (back, other, behind) in enumerate(blocks)]
+    head = f"shader inputs[w32x1]outputs[]buffers 0{{block {entry}{{%0=input w32x1@0 %1=const w1x1(1)}}loop{{block {first}{{%2=phi w32x1[{phi}]}}"
+    return "".join([head, *ifs, f"}}block {end}{{}}}}"])
+
+
 def run_once(words, text):
     """What a program prints, and its processor time in milliseconds."""
     with tempfile.TemporaryFile() as given, tempfile.TemporaryFile() as printed:
@@ -151,6 +169,7 @@ def main():
         ("read and print, one block of values", "print", sums, MANY_VALUES, 50),
         ("read and print, text of 4 MiB", "print", outputs, MANY_BYTES, 200),
         ("validate, ifs and loops 32 deep", "validate", lambda count: Nested(count).text(), MANY_VALUES, 50),
+        ("validate, a phi of 64,000 sources", "validate", sources, MANY_SOURCES, 200),
     )
     failed = False
     with tempfile.TemporaryDirectory(prefix="bench_shader_") as folder:
