@@ -21,6 +21,8 @@ use Rattle.nir_ir.specs.Shaped.{IsShaped}
 use Rattle.nir_ir.specs.Shader.{Shader}
 use Rattle.nir_validate.specs.Rules.{Kinds}
 use Rattle.nir_validate.specs.KindTable.{kinds_in, told, told_all, told_in, told_pair}
+use Rattle.list_laws.specs.BoolLaws.{or_false}
+use Rattle.list_laws.specs.OptionLaws.{option_or-none}
 
 -- the kind that the items of a list give a value, by its instruction and by its phi
 abbrev pub kind_by_instr : List Item → Kinds
@@ -102,10 +104,6 @@ read_told table id value kind same within = get_or-set_at table id.0 value.0 (So
 read_other : (table : List (Option Kind)) (id value : ValueId) (kind : Kind) → nat_eq id.0 value.0 ≡ false → kinds_in (slice_set table id.0 (Some kind)) value ≡ kinds_in table value
 read_other table id value kind other = get_or-set_other table id.0 value.0 (Some kind) None (λ e. eqb-false id.0 value.0 other (sym e))
 
-or_false : (test : Bool) → (test || false) ≡ test
-or_false true = refl
-or_false false = refl
-
 -- an item before others: an instruction that defines a value, and a phi
 instr_before : (value id : ValueId) (kind : Kind) (instr : Instr) (list : List Item) (table : List (Option Kind))
     → target instr ≡ Some id → kind_of_target instr ≡ Some kind → AllByRecursion (λ n. nat_eq id.0 n ≡ false) (numbers list) → value.0 < length table
@@ -184,10 +182,6 @@ absent_above value n (m ∷ list) above h =
     let less : m < n = h.0 in
     (ne_eqb value.0 m (λ e. let same : value.0 ≡ m = e in absurd (omega arith)), absent_above value n list above h.1)
 
-or_none : (found : Option Kind) → option_or found None ≡ found
-or_none None = refl
-or_none (Some kind) = refl
-
 same_kinds : (a b : Kinds) → ((value : ValueId) → a value ≡ b value) → a ≡ b
 same_kinds a b h = λ i value. h value i
 
@@ -198,7 +192,7 @@ table_right body n distinct below value true is =
     let less : value.0 < n = ltb-true value.0 n is in
     told-right value (items body) (replicate n None) distinct (subst (λ m. value.0 < m) (sym (length-replicate n None)) less)
     ∙ ap (option_or (kind_at body value)) (get_or-replicate n value.0 None None less)
-    ∙ or_none (kind_at body value)
+    ∙ option_or-none (kind_at body value)
 table_right body n distinct below value false is =
     let above : n ≤ value.0 = ltb-false value.0 n is in
     let absent : AbsentFrom value (items body) = absent_above value n (numbers (items body)) above below in

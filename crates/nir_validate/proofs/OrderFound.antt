@@ -15,6 +15,7 @@ use Rattle.nir_validate.specs.Passing.{next_item}
 use Rattle.nir_validate.specs.Placing.{counted_by, fault_of_row, fresh, left_wanting, order_faults, out_of_turn, past_block, placed, placed_in, turned_to}
 use Rattle.nir_validate.specs.Rules.{misplaced, misplaced_inside, all_misplaced}
 use Rattle.nir_validate.specs.Valid.{Fault, least}
+use Rattle.list_laws.specs.OptionLaws.{option_or-assoc}
 
 -- the number behind the items, which stands still at the end of its type
 pub placed-at : (row : Row) (pass : Pass) (nodes : Nodes) → pass.at ≤ 2 ^ 64 - 1 → (placed row pass nodes).at ≡ counted_by (length (items nodes)) pass.at
@@ -62,10 +63,6 @@ least_of-append a b = ap least (order_faults-append a b) ∙ least-append (order
 abbrev own : Row → ℕ → Nodes → Option ℕ
 own row at nodes = option_or row.misplaced (misplaced row.wants_block row.last at nodes)
 
-or_assoc : (a b c : Option ℕ) → option_or (option_or a b) c ≡ option_or a (option_or b c)
-or_assoc None b c = refl
-or_assoc (Some a) b c = refl
-
 own-nil : (row : Row) (at : ℕ) (wants : Bool) → row.wants_block ≡ wants → fault_of_row row ≡ own row at Nil
 own-nil row at true is = ap (λ w. option_or row.misplaced (left_wanting w row.last)) is ∙ sym (ap (λ w. option_or row.misplaced (misplaced w row.last at Nil)) is)
 own-nil row at false is = ap (λ w. option_or row.misplaced (left_wanting w row.last)) is ∙ sym (ap (λ w. option_or row.misplaced (misplaced w row.last at Nil)) is)
@@ -101,7 +98,7 @@ placed-found row pass (BlockThen b rest) few =
     let at : (past_block b pass).at ≡ pass.at + length (block_items b) = omega (arith, part) in
     let fewer : (past_block b pass).at + length (items rest) < 2 ^ 64 = omega (arith, part) in
     let own_is : own (turned_to row true pass.at) (pass.at + length (block_items b)) rest ≡ own row pass.at (BlockThen b rest) =
-    or_assoc row.misplaced (out_of_turn row.wants_block true pass.at) (misplaced false pass.at (pass.at + length (block_items b)) rest)
+    option_or-assoc row.misplaced (out_of_turn row.wants_block true pass.at) (misplaced false pass.at (pass.at + length (block_items b)) rest)
     ∙ ap (option_or row.misplaced) (turn_block row.wants_block row.last pass.at b rest) in
     placed-found (turned_to row true pass.at) (past_block b pass) rest fewer
     ∙ ap (λ n. sooner (sooner pass.found (least_of (misplaced_inside n rest))) (least_of (option_to_list (own (turned_to row true pass.at) n rest)))) at
@@ -143,7 +140,7 @@ placed-found row pass (IfThen id condition first second rest) few =
     ∙ sym (sooner-assoc pass.found (sooner o1 i1) (sooner o2 i2))
     ∙ ap (sooner pass.found) (sooner-assoc (sooner o1 i1) o2 i2) in
     let own_is : own (turned_to row false pass.at) rest_at rest ≡ own row pass.at (IfThen id condition first second rest) =
-    or_assoc row.misplaced (out_of_turn row.wants_block false pass.at) (misplaced true pass.at rest_at rest)
+    option_or-assoc row.misplaced (out_of_turn row.wants_block false pass.at) (misplaced true pass.at rest_at rest)
     ∙ ap (option_or row.misplaced) (turn_if row.wants_block row.last pass.at id condition first second rest) in
     let inside : least_of (misplaced_inside pass.at (IfThen id condition first second rest)) ≡ sooner (sooner (sooner (sooner o1 i1) o2) i2) i3 =
     least_of-append (own1 ++ misplaced_inside (suc pass.at) first ++ own2 ++ misplaced_inside second_at second) (misplaced_inside rest_at rest)
@@ -174,7 +171,7 @@ placed-found row pass (LoopThen id body rest) few =
     ∙ ap (λ n. sooner (sooner pass.found (least_of (misplaced_inside n body))) (least_of (option_to_list (misplaced true pass.at n body)))) at_start
     ∙ swapped pass.found i1 o1 in
     let own_is : own (turned_to row false pass.at) (suc (pass.at + length (items body))) rest ≡ own row pass.at (LoopThen id body rest) =
-    or_assoc row.misplaced (out_of_turn row.wants_block false pass.at) (misplaced true pass.at (suc (pass.at + length (items body))) rest)
+    option_or-assoc row.misplaced (out_of_turn row.wants_block false pass.at) (misplaced true pass.at (suc (pass.at + length (items body))) rest)
     ∙ ap (option_or row.misplaced) (turn_loop row.wants_block row.last pass.at id body rest) in
     let inside : least_of (misplaced_inside pass.at (LoopThen id body rest)) ≡ sooner (sooner o1 i1) i2 =
     least_of-append (option_to_list (misplaced true pass.at (suc pass.at) body) ++ misplaced_inside (suc pass.at) body) (misplaced_inside (suc (pass.at + length (items body))) rest)

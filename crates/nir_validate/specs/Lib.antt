@@ -12,7 +12,10 @@ pub mod Fitting
 pub mod TypedLaws
 pub mod Grow
 pub mod OneBlock
-pub mod Walked
+pub mod Alternates
+pub mod Each
+pub mod ByParts
+pub mod WalkLaws
 pub mod Worked
 pub mod Paths
 pub mod Tree

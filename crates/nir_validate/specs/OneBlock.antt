@@ -19,7 +19,8 @@ use Rattle.nir_validate.specs.Fitting.{kept_from_fits}
 use Rattle.nir_validate.specs.Placing.{order_faults}
 use Rattle.nir_validate.specs.Rules.{Kinds, Spot, all_misplaced, are_uses_defined, condition_fits, is_declared, kinds_fit, may_be_left, may_stand, named, names_each_once, predecessors, sources_match, spots, swizzles_fit}
 use Rattle.nir_validate.specs.Typed.{InstrFits, ItemFits}
-use Rattle.nir_validate.specs.TypedLaws.{SpotKept, all_append, all_back, all_front, all_kept, first_nil, nodes_fit, second_nil, spots_of, spots_of-append, told_nothing, typed-from_valid}
+use Rattle.list_laws.specs.AllLaws.{all_append, all_back, all_front}
+use Rattle.nir_validate.specs.TypedLaws.{SpotKept, all_kept, first_nil, nodes_fit, second_nil, spots_of, spots_of-append, told_nothing, typed-from_valid}
 use Rattle.nir_validate.specs.Valid.{Fault, Valid, at_each, spot_faults, unless, visit_faults}
 use Rattle.nir_validate.specs.Walk.{Visit, entry, is_idle, visit_instrs, visit_jump, visit_phis, visits_of}
 

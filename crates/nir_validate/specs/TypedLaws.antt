@@ -4,6 +4,7 @@ use Rattle.std.specs.List.{AllByRecursion}
 use Rattle.std.specs.Option.{option_or, option_to_list}
 use Rattle.std.proofs.Common.{sym, ◌∙◌, ap}
 use Rattle.std.proofs.lemmas.Option.{none-some}
+use Rattle.list_laws.specs.AllLaws.{all_append, all_back, all_each, all_front}
 use Rattle.nir_ir.specs.declared.instr.Instr.{Instr}
 use Rattle.nir_ir.specs.declared.node.Phi.{Phi}
 use Rattle.nir_ir.specs.declared.node.PhiSource.{PhiSource}
@@ -78,22 +79,6 @@ item_fits s (LoopHead id) in_loop kept = tt
 -- what holds of the spots of nodes holds of their items
 abbrev pub On : (Item → Type 0) → Spot → Type 0
 On P spot = P spot.item
-
-pub all_append : {A : Type 0} (P : A → Type 0) (a b : List A) → AllByRecursion P a → AllByRecursion P b → AllByRecursion P (a ++ b)
-all_append P [] b ha hb = hb
-all_append P (x ∷ a) b ha hb = (ha.0, all_append P a b ha.1 hb)
-
-pub all_front : {A : Type 0} (P : A → Type 0) (a b : List A) → AllByRecursion P (a ++ b) → AllByRecursion P a
-all_front P [] b h = tt
-all_front P (x ∷ a) b h = (h.0, all_front P a b h.1)
-
-pub all_back : {A : Type 0} (P : A → Type 0) (a b : List A) → AllByRecursion P (a ++ b) → AllByRecursion P b
-all_back P [] b h = h
-all_back P (x ∷ a) b h = all_back P a b h.1
-
-pub all_each : {A : Type 0} (P Q : A → Type 0) → ((a : A) → P a → Q a) → (list : List A) → AllByRecursion P list → AllByRecursion Q list
-all_each P Q h [] all = tt
-all_each P Q h (a ∷ list) all = (h a all.0, all_each P Q h list all.1)
 
 -- items, in a loop or not
 abbrev pub spots_of : Bool → List Item → List Spot

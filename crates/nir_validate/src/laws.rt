@@ -3,7 +3,6 @@
 ghost use Rattle.nir_validate.specs.Grow.{SetsOnlyGrow};
 ghost use Rattle.nir_validate.specs.OneBlock.{OneBlockIsValid};
 ghost use Rattle.nir_validate.specs.TypedLaws.{ValidIsTyped, ValidWhereNone};
-ghost use Rattle.nir_validate.specs.Walked.{ValidIsWalked};
 
 /// A shader is valid exactly where no rule is broken.
 pub fn valid_where_no_rule_is_broken()
@@ -14,12 +13,6 @@ pub fn valid_where_no_rule_is_broken()
 /// slots and buffers that are declared.
 pub fn valid_shaders_are_typed()
     ensures { ValidIsTyped }
-{}
-
-/// In a valid shader each if, each loop and each block that does anything is reached, the sources of a phi name its
-/// predecessors once each, and what is used is defined on every path to its use.
-pub fn valid_shaders_define_what_they_use()
-    ensures { ValidIsWalked }
 {}
 
 /// A value that is defined on every path into a list of nodes is defined on every path out of it.

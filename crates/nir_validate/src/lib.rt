@@ -18,6 +18,6 @@ mod way;
 pub use fault::ValidateFault;
 pub use laws::{
     one_block_is_valid_by_its_instructions, sets_only_grow, valid_shaders_are_typed,
-    valid_shaders_define_what_they_use, valid_where_no_rule_is_broken,
+    valid_where_no_rule_is_broken,
 };
 pub use verdict::validate;

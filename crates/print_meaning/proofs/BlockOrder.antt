@@ -14,7 +14,7 @@ use Rattle.nir_mean.specs.Run.{comes_from}
 use Rattle.nir_print.specs.BlockGroups.{groups}
 use Rattle.nir_print.specs.Naming.{block_place, in_block_order, place}
 use Rattle.nir_print.specs.Renumber.{Numbers, new_block, new_phi_source}
-use Rattle.nir_validate.specs.TypedLaws.{all_each}
+use Rattle.list_laws.specs.AllLaws.{all_each}
 use Rattle.print_meaning.proofs.Places.{find_renamed, place-below, place-same}
 
 -- ---- what is found

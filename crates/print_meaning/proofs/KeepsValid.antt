@@ -12,7 +12,8 @@ use Rattle.nir_print.specs.Renumber.{Numbers, new_nodes, numbers_of, renumber}
 use Rattle.nir_validate.specs.OneBlock.{VisitKept, none_told, spot_told, visit_told, visits_kept}
 use Rattle.nir_validate.specs.Placing.{order_faults}
 use Rattle.nir_validate.specs.Rules.{Spot, all_misplaced, spots}
-use Rattle.nir_validate.specs.TypedLaws.{SpotKept, all_each, all_kept, first_nil, second_nil}
+use Rattle.list_laws.specs.AllLaws.{all_each}
+use Rattle.nir_validate.specs.TypedLaws.{SpotKept, all_kept, first_nil, second_nil}
 use Rattle.nir_validate.specs.Valid.{at_each, spot_faults, visit_faults}
 use Rattle.nir_validate.specs.Walk.{entry, visits_of}
 use Rattle.print_meaning.proofs.Apart.{all_apart, nodes_apart}

@@ -17,7 +17,7 @@ use Rattle.nir_print.specs.EachOf.{all_back, all_front}
 use Rattle.nir_print.specs.Naming.{place}
 use Rattle.nir_print.specs.Renumber.{Numbers, new_instr, new_nodes, new_phi, new_value, numbers_of}
 use Rattle.nir_print.specs.RenumberedItems.{given-new_nodes, new_item}
-use Rattle.nir_validate.specs.TypedLaws.{all_each}
+use Rattle.list_laws.specs.AllLaws.{all_each}
 
 -- ---- members and their places
 

@@ -18,7 +18,7 @@ use Rattle.nir_mean.specs.Run.{Setting, run_block, run_choice, run_instrs, run_l
 use Rattle.nir_mean.specs.State.{zeros}
 use Rattle.nir_print.specs.EachOf.{all_back, all_front, all_of_map, given_by_each}
 use Rattle.nir_print.specs.Renumber.{Numbers, new_block, new_block_node, new_instr, new_nodes, new_phi, new_value, numbers_of, renumber}
-use Rattle.nir_validate.specs.TypedLaws.{all_each}
+use Rattle.list_laws.specs.AllLaws.{all_each}
 use Rattle.print_meaning.specs.RenumberedLaws.{RenumberedIsSame}
 use Rattle.print_meaning.proofs.Places.{all_members, kind_at-renumbered}
 use Rattle.print_meaning.proofs.Steps.{InstrNamed, PhiNamed, SameSetting, by_places, run_instrs-renumbered, run_phis-renumbered}

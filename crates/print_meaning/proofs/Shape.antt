@@ -18,7 +18,7 @@ use Rattle.nir_print.specs.EachOf.{all_append, all_back, all_front, all_of_map}
 use Rattle.nir_print.specs.Naming.{in_block_order, place}
 use Rattle.nir_print.specs.Renumber.{Numbers, new_instr, new_nodes, new_phi_source, new_src, new_value, numbers_of}
 use Rattle.nir_print.specs.RenumberedItems.{blocks_renamed, effects_renamed, given-new_nodes, ifs_renamed, items-new_nodes, loops_renamed, new_item, places_in_order, values_renamed}
-use Rattle.nir_validate.specs.TypedLaws.{all_each}
+use Rattle.list_laws.specs.AllLaws.{all_each}
 use Rattle.print_meaning.proofs.Places.{place-below}
 use Rattle.print_meaning.proofs.InstrReads.{reads-new_instr}
 use Rattle.print_meaning.specs.RenumberedLaws.{RenumberedIsShaped}

@@ -25,7 +25,7 @@ use Rattle.nir_mean.specs.State.{State, load, put_out, store, zeros}
 use Rattle.nir_mean.specs.Values.{Values, alu_mean, read, source_sizes}
 use Rattle.nir_print.specs.Naming.{place}
 use Rattle.nir_print.specs.Renumber.{Numbers, new_block, new_instr, new_phi, new_phi_source, new_src, new_value}
-use Rattle.nir_validate.specs.TypedLaws.{all_each}
+use Rattle.list_laws.specs.AllLaws.{all_each}
 use Rattle.print_meaning.proofs.BlockOrder.{found_holds, taken-renumbered}
 use Rattle.print_meaning.proofs.Places.{find_renamed, place-same, target-new_instr}
 
