@@ -4,10 +4,6 @@ use Rattle.std.specs.List.{flat_map}
 use Rattle.std.proofs.Common.{◌∙◌, ap}
 use Rattle.std.proofs.lemmas.Grind.{flat_map-append}
 
-pub map-append : {A B : Type 0} (f : A → B) (first second : List A) → map f (first ++ second) ≡ map f first ++ map f second
-map-append f [] second = refl
-map-append f (a ∷ first) second = ap (λ t. f a ∷ t) (map-append f first second)
-
 pub map-same : {A : Type 0} (list : List A) → map (λ a. a) list ≡ list
 map-same [] = refl
 map-same (a ∷ list) = ap (λ t. a ∷ t) (map-same list)
