@@ -21,7 +21,7 @@ use Rattle.nir_ir.specs.Shaped.{IsShaped}
 use Rattle.nir_ir.specs.Shader.{Shader}
 use Rattle.nir_validate.specs.Rules.{Kinds}
 use Rattle.nir_validate.specs.KindTable.{kinds_in, told, told_all, told_in, told_pair}
-use Rattle.list_laws.specs.BoolLaws.{or_false}
+use Rattle.std.proofs.Math.Bool.{or-false}
 use Rattle.list_laws.specs.OptionLaws.{option_or-none}
 
 -- the kind that the items of a list give a value, by its instruction and by its phi
@@ -112,7 +112,7 @@ unfolding AbsentFrom
 instr_before value id kind instr list table aims told_kind apart within = by_test (nat_eq id.0 value.0) refl
   where
     tested : (test : Bool) → nat_eq id.0 value.0 ≡ test → is_target value instr ≡ test
-    tested test is = ap (λ found. list_any (λ (v : ValueId). nat_eq v.0 value.0) (option_to_list found)) aims ∙ or_false (nat_eq id.0 value.0) ∙ is
+    tested test is = ap (λ found. list_any (λ (v : ValueId). nat_eq v.0 value.0) (option_to_list found)) aims ∙ or-false (nat_eq id.0 value.0) ∙ is
 
     by_test : (test : Bool) → nat_eq id.0 value.0 ≡ test → option_or (kind_among list value) (kinds_in (slice_set table id.0 (Some kind)) value) ≡ option_or (kind_among (InstrItem instr ∷ list) value) (kinds_in table value)
     by_test true is =

@@ -1,0 +1,12 @@
+pub mod EachLaws
+pub mod OrderLaws
+pub mod SpotsLaws
+pub mod VisitsLaws
+pub mod PartsLaws
+pub mod LeavesLaws
+pub mod AlongLaws
+pub mod SetsLaws
+pub mod PairsLaws
+pub mod GrownLaws
+pub mod DistinctLaws
+pub mod FreshLaws
