@@ -1,12 +1,14 @@
 -- Edits of the tree of a shader: instructions put in the place of the one that defines a value.
-use Rattle.std.specs.Prelude.{◌≡◌, ℕ, ◌<◌, ◌≤◌, List, [], ◌∷◌, length, Option, cond, true}
+use Rattle.std.specs.Prelude.{◌≡◌, ℕ, ◌+◌, ◌<◌, ◌≤◌, List, [], ◌∷◌, ◌++◌, length, map, Option, Some, cond, true}
 use Rattle.std.specs.Option.{MatchOption}
-use Rattle.std.specs.List.{flat_map, HoldsAt}
+use Rattle.std.specs.List.{flat_map, HoldsAt, range_with_len}
 use Rattle.nir_ir.specs.declared.ids.ValueId.{ValueId}
 use Rattle.nir_ir.specs.declared.instr.Instr.{Instr}
 use Rattle.nir_ir.specs.declared.node.Block.{Block}
 use Rattle.nir_ir.specs.Nodes.{Nodes, Nil, BlockThen, IfThen, LoopThen}
 use Rattle.nir_ir.specs.Definitions.{is_target}
+use Rattle.nir_ir.specs.Items.{target}
+use Rattle.nir_ir.specs.Shader.{Shader}
 
 -- what stands in the place of an instruction: the new ones where it defines the value
 abbrev pub in_place_of : ValueId → List Instr → Instr → List Instr
@@ -29,3 +31,17 @@ IsPlaceOf value list at = (at < length list) × HoldsAt (λ instr. is_target val
 -- what is left of an instruction that was to take the place of one of so many: nothing, or itself where there was none and all was kept
 abbrev pub IsLeftOver : Option Instr → Instr → ℕ → Type 0 → Type 0
 IsLeftOver left instr count kept = MatchOption left (1 ≤ count) (λ same. (same ≡ instr) × (count ≡ 0) × kept)
+
+-- Instructions that may stand in the place of the one that defines the value: the last of them defines it, those before define fresh numbers in
+-- order, and `after` is the next fresh number.
+pub record ArePlaced (next after : ℕ) (value : ValueId) (news : List Instr) : Type 0 where
+  pub front : List Instr
+  pub last : Instr
+  pub are : news ≡ front ++ last ∷ []
+  pub fresh : map target front ≡ map (λ n. Some (record { 0 = n })) (range_with_len next (length front))
+  pub root : target last ≡ Some value
+  pub counted : after ≡ next + length front
+
+-- the shader with these instructions in the place of the one that defines the value
+abbrev pub with_news : Shader → ValueId → List Instr → ℕ → Shader
+with_news s value news after = record { inputs = s.inputs; outputs = s.outputs; buffers = s.buffers; body = replaced value news s.body; next_value = after }

@@ -7,6 +7,10 @@ use Rattle.nir_validate.specs.Edges.{Edge, backs, either, out_of_loop}
 use Rattle.nir_validate.specs.Walk.{block_flow, walk}
 use Rattle.nir_validate.specs.Each.{Each}
 
+-- nothing is asked of conditions
+abbrev pub NoFact : ValueId → List Edge → Type 0
+NoFact condition edges = Unit {0}
+
 -- a fact of each from another, or from two
 pub each_both : (G G' G'' : Block → List Edge → List Edge → Type 0) (H H' H'' : ValueId → List Edge → Type 0)
     → ((b : Block) (edges all : List Edge) → G b edges all → G' b edges all → G'' b edges all)

@@ -2,9 +2,9 @@
 use Rattle.std.specs.Prelude.{◌≡◌, refl, ℕ, Bool, true, false, ◌&&◌, ◌||◌, nat_eq, List, [], ◌∷◌, ◌++◌, map, Option, Some, None}
 use Rattle.std.specs.List.{AllByRecursion, IsDistinct}
 use Rattle.std.specs.Option.{option_to_list}
-use Rattle.std.proofs.Common.{sym, ap, subst}
+use Rattle.std.proofs.Common.{sym, subst}
 use Rattle.std.proofs.Common.{append-nil}
-use Rattle.std.proofs.lemmas.Bool.{eq-eqb, eqb-true, true≢false}
+use Rattle.std.proofs.lemmas.Bool.{eqb-true, true≢false}
 use Rattle.list_laws.specs.AllLaws.{all_append, all_each}
 use Rattle.nir_ir.specs.declared.ids.ValueId.{ValueId}
 use Rattle.nir_ir.specs.declared.instr.Instr.{Instr}
@@ -17,8 +17,17 @@ use Rattle.nir_ir.specs.Shader.{Shader}
 use Rattle.nir_validate.specs.Each.{Each, IsReached}
 use Rattle.nir_validate.specs.Edges.{Edge, Set, backs, either, meet, out_of_loop, set_after, set_after_instrs, set_after_phis, with_member}
 use Rattle.nir_validate.specs.Walk.{block_flow, entry, walk}
+use Rattle.walk_laws.specs.EachLaws.{NoFact}
 use Rattle.walk_laws.specs.AlongLaws.{AllFlow, BlocksKeep, each_along}
-use Rattle.walk_laws.specs.DistinctLaws.{Apart, apart-back, apart-front, block_defines, defined-block, defined-if, defined-loop, distinct-apart, distinct-back, distinct-front, instrs_define, one_of-back, one_of-front, phis_define, target_numbers}
+use Rattle.edit_laws.specs.ItemsLaws.{target_numbers}
+use Rattle.edit_laws.specs.NumbersLaws.{Apart, apart-swap, distinct-apart, distinct-back, distinct-front, one_of-back, one_of-front, one_of-here}
+use Rattle.walk_laws.specs.DistinctLaws.{block_defines, defined-block, defined-if, defined-loop, instrs_define, phis_define}
+
+apart-front : (a b c : List ℕ) → Apart a (b ++ c) → Apart a b
+apart-front a b c apart n in_a in_b = apart n in_a (one_of-front b c n in_b)
+
+apart-back : (a b c : List ℕ) → Apart a (b ++ c) → Apart a c
+apart-back a b c apart n in_a in_c = apart n in_a (one_of-back b c n in_c)
 
 -- none of the numbers is in the set
 abbrev pub IsOut : List ℕ → Set → Type 0
@@ -60,19 +69,16 @@ member_out : (numbers : List ℕ) (id : ValueId) (set : Set) → IsOut numbers s
 member_out numbers id set out other n is =
     not_both (nat_eq n id.0) (set n) (false_is (nat_eq n id.0) (λ same. other (subst (IsOneOf numbers) (eqb-true n id.0 same) is))) (out n is)
 
-here_is : (n : ℕ) → IsOneOf (n ∷ []) n
-here_is n = ap (λ t. t || false) (eq-eqb n n refl)
-
 phis_out : (numbers : List ℕ) (phis : List Phi) (set : Set) → IsOut numbers set → Apart numbers (phis_define phis) → IsOut numbers (set_after_phis phis set)
 phis_out numbers [] set out apart = out
 phis_out numbers (phi ∷ phis) set out apart =
     phis_out numbers phis (with_member (Some phi.value) set)
-    (member_out numbers phi.value set out (λ is. apart phi.value.0 is (one_of-front (phi.value.0 ∷ []) (phis_define phis) phi.value.0 (here_is phi.value.0))))
+    (member_out numbers phi.value set out (λ is. apart phi.value.0 is (one_of-front (phi.value.0 ∷ []) (phis_define phis) phi.value.0 (one_of-here phi.value.0 []))))
     (apart-back numbers (phi.value.0 ∷ []) (phis_define phis) apart)
 
 instr_out : (numbers : List ℕ) (found : Option ValueId) (set : Set) → IsOut numbers set → Apart numbers (map (λ (id : ValueId). id.0) (option_to_list found)) → IsOut numbers (with_member found set)
 instr_out numbers None set out apart = out
-instr_out numbers (Some id) set out apart = member_out numbers id set out (λ is. apart id.0 is (here_is id.0))
+instr_out numbers (Some id) set out apart = member_out numbers id set out (λ is. apart id.0 is (one_of-here id.0 []))
 
 instrs_out : (numbers : List ℕ) (instrs : List Instr) (set : Set) → IsOut numbers set → Apart numbers (instrs_define instrs) → IsOut numbers (set_after_instrs instrs set)
 instrs_out numbers [] set out apart = out
@@ -91,9 +97,6 @@ meet_out numbers (edge ∷ edges) reached out n is = first (edge.set n) (meet ed
 -- a block that defines none of them keeps them out
 abbrev pub DefinesNone : List ℕ → Block → List Edge → List Edge → Type 0
 DefinesNone numbers b edges all = Apart numbers (block_defines b)
-
-abbrev pub NoFact : ValueId → List Edge → Type 0
-NoFact condition edges = Unit {0}
 
 out_keeps : (numbers : List ℕ) → BlocksKeep (EdgeOut numbers) (DefinesNone numbers)
 out_keeps numbers b [] all apart out = tt
@@ -146,21 +149,18 @@ edges-front a b edges out = all_each (EdgeOut (a ++ b)) (EdgeOut a) (λ edge is.
 edges-back : (a b : List ℕ) (edges : List Edge) → AllByRecursion (EdgeOut (a ++ b)) edges → AllByRecursion (EdgeOut b) edges
 edges-back a b edges out = all_each (EdgeOut (a ++ b)) (EdgeOut b) (λ edge is. out-back a b edge.set is) edges out
 
-other-way : (a b : List ℕ) → Apart a b → Apart b a
-other-way a b apart n in_b in_a = apart n in_a in_b
-
 phis_new : (phis : List Phi) (set : Set) → IsDistinct nat_eq (phis_define phis) → IsOut (phis_define phis) set → ArePhisNew set phis
 phis_new [] set distinct out = tt
 phis_new (phi ∷ phis) set distinct out = (
-  out phi.value.0 (one_of-front (phi.value.0 ∷ []) (phis_define phis) phi.value.0 (here_is phi.value.0)),
+  out phi.value.0 (one_of-front (phi.value.0 ∷ []) (phis_define phis) phi.value.0 (one_of-here phi.value.0 [])),
   phis_new phis (with_member (Some phi.value) set) (distinct-back (phi.value.0 ∷ []) (phis_define phis) distinct)
       (member_out (phis_define phis) phi.value set (out-back (phi.value.0 ∷ []) (phis_define phis) set out)
-      (λ is. distinct-apart (phi.value.0 ∷ []) (phis_define phis) distinct phi.value.0 (here_is phi.value.0) is)),
+      (λ is. distinct-apart (phi.value.0 ∷ []) (phis_define phis) distinct phi.value.0 (one_of-here phi.value.0 []) is)),
 )
 
 target_new : (instr : Instr) (numbers : List ℕ) (set : Set) → IsOut (target_numbers instr ++ numbers) set → IsNew set instr
 target_new instr numbers set out id is =
-    out id.0 (one_of-front (target_numbers instr) numbers id.0 (subst (λ found. IsOneOf (map (λ (i : ValueId). i.0) (option_to_list found)) id.0) (sym is) (here_is id.0)))
+    out id.0 (one_of-front (target_numbers instr) numbers id.0 (subst (λ found. IsOneOf (map (λ (i : ValueId). i.0) (option_to_list found)) id.0) (sym is) (one_of-here id.0 [])))
 
 instrs_new : (instrs : List Instr) (set : Set) → IsDistinct nat_eq (instrs_define instrs) → IsOut (instrs_define instrs) set → AreNew set instrs
 instrs_new [] set distinct out = tt
@@ -168,7 +168,7 @@ instrs_new (instr ∷ instrs) set distinct out = (
   target_new instr (instrs_define instrs) set out,
   instrs_new instrs (set_after instr set) (distinct-back (target_numbers instr) (instrs_define instrs) distinct)
       (instr_out (instrs_define instrs) (target instr) set (out-back (target_numbers instr) (instrs_define instrs) set out)
-      (other-way (target_numbers instr) (instrs_define instrs) (distinct-apart (target_numbers instr) (instrs_define instrs) distinct))),
+      (apart-swap (target_numbers instr) (instrs_define instrs) (distinct-apart (target_numbers instr) (instrs_define instrs) distinct))),
 )
 
 block_new : (b : Block) (edges : List Edge) → IsDistinct nat_eq (block_defines b) → IsReached edges → AllByRecursion (EdgeOut (block_defines b)) edges → BlockNew b edges
@@ -179,7 +179,7 @@ block_new b edges distinct reached out =
     record {
       phis = phis_new b.phis (meet edges) (distinct-front phis instrs distinct) (out-front phis instrs (meet edges) all);
       instrs = instrs_new b.instrs (set_after_phis b.phis (meet edges)) (distinct-back phis instrs distinct)
-          (phis_out instrs b.phis (meet edges) (out-back phis instrs (meet edges) all) (other-way phis instrs (distinct-apart phis instrs distinct)));
+          (phis_out instrs b.phis (meet edges) (out-back phis instrs (meet edges) all) (apart-swap phis instrs (distinct-apart phis instrs distinct)));
     }
 
 pub fresh_each : (G : Block → List Edge → List Edge → Type 0) (H : ValueId → List Edge → Type 0) (nodes : Nodes) (edges back : List Edge)
@@ -190,7 +190,7 @@ fresh_each G H (BlockThen b rest) edges back distinct out each =
     let behind = values_defined rest in
     let parts = subst (IsDistinct nat_eq) (defined-block b rest) distinct in
     let all = subst (λ numbers. AllByRecursion (EdgeOut numbers) edges) (defined-block b rest) out in
-    let kept = walk_out behind (λ x p q. G x p q) H (BlockThen b Nil) edges back (each.0, refl) (subst (Apart behind) (sym (defined-block b Nil)) (apart_alone behind own (other-way own behind (distinct-apart own behind parts)))) (edges-back own behind edges all) in (
+    let kept = walk_out behind (λ x p q. G x p q) H (BlockThen b Nil) edges back (each.0, refl) (subst (Apart behind) (sym (defined-block b Nil)) (apart_alone behind own (apart-swap own behind (distinct-apart own behind parts)))) (edges-back own behind edges all) in (
       (each.0, (λ reached. block_new b edges (distinct-front own behind parts) reached (edges-front own behind edges all))),
       fresh_each G H rest (block_flow b edges).falls [] (distinct-back own behind parts) (falls_kept behind b edges kept) each.1,
     )
@@ -209,7 +209,7 @@ fresh_each G H (IfThen id condition first second rest) edges back distinct out e
     let all = subst (λ numbers. AllByRecursion (EdgeOut numbers) edges) (defined-if first second rest) out in
     let lists = distinct-front both behind parts in
     let within = edges-front both behind edges all in
-    let apart = other-way both behind (distinct-apart both behind parts) in
+    let apart = apart-swap both behind (distinct-apart both behind parts) in
     let from_first = walk_out behind G H first edges [] each.2 (apart-front behind one two apart) (edges-back both behind edges all) in
     let from_second = walk_out behind G H second edges [] each.3 (apart-back behind one two apart) (edges-back both behind edges all) in (
       each.0,
@@ -224,7 +224,7 @@ fresh_each G H (LoopThen id body rest) edges back distinct out each =
     let behind = values_defined rest in
     let parts = subst (IsDistinct nat_eq) (defined-loop body rest) distinct in
     let all = subst (λ numbers. AllByRecursion (EdgeOut numbers) edges) (defined-loop body rest) out in
-    let left = walk_out behind G H body edges (backs (walk body edges)) each.1 (other-way inside behind (distinct-apart inside behind parts)) (edges-back inside behind edges all) in (
+    let left = walk_out behind G H body edges (backs (walk body edges)) each.1 (apart-swap inside behind (distinct-apart inside behind parts)) (edges-back inside behind edges all) in (
       each.0,
       fresh_each G H body edges (backs (walk body edges)) (distinct-front inside behind parts) (edges-front inside behind edges all) each.1,
       fresh_each G H rest (out_of_loop (walk body edges)).falls [] (distinct-back inside behind parts) left.breaks each.2,

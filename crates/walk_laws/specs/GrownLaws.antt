@@ -20,7 +20,7 @@ use Rattle.nir_validate.specs.Walk.{entry, out_edges}
 use Rattle.nir_validate.specs.Each.{InstrsWalked, IsDefinedAlong, IsReached, PhiWalked}
 use Rattle.walk_laws.specs.PartsLaws.{parts-from_valid, valid-from_parts}
 use Rattle.nir_validate.specs.Each.{BlockDefines, ConditionDefined, Each, Lives}
-use Rattle.walk_laws.specs.EachLaws.{each_both}
+use Rattle.walk_laws.specs.EachLaws.{NoFact, each_both}
 use Rattle.nir_validate.specs.Alternates.{JumpsIn, Turns}
 use Rattle.walk_laws.specs.PairsLaws.{AllPairs, Change, changed, changed_block, each_changed, jumps_changed, lives_changed, turns_changed}
 
@@ -46,9 +46,6 @@ InstrsTake f set (instr ∷ instrs) = TakesPlace set instr (f instr) × InstrsTa
 abbrev pub BlockTakes : (Instr → List Instr) → Block → List Edge → List Edge → Type 0
 BlockTakes f b edges all = IsReached edges → InstrsTake f (set_after_phis b.phis (meet edges)) b.instrs
 
-abbrev pub NoFact : ValueId → List Edge → Type 0
-NoFact condition edges = Unit {0}
-
 abbrev pub BlockBoth : (Instr → List Instr) → Block → List Edge → List Edge → Type 0
 BlockBoth f b edges all = BlockDefines b edges all × BlockTakes f b edges all
 
@@ -58,14 +55,14 @@ in_places f = record { phis = λ list. list; instr = f; condition = λ id value.
 abbrev pub ValidInPlaces : Type 0
 ValidInPlaces = (s t : Shader) (f : Instr → List Instr) → Each (BlockTakes f) NoFact s.body (entry ∷ []) [] → t.body ≡ changed (in_places f) s.body → NodesFit t t.body → Valid s → Valid t
 
-meet_grown : (p q : List Edge) → AllPairs IsGrown p q → IsBelow (meet p) (meet q)
+pub meet_grown : (p q : List Edge) → AllPairs IsGrown p q → IsBelow (meet p) (meet q)
 meet_grown [] [] all n is = refl
 meet_grown [] (b ∷ q) all n is = absurd all
 meet_grown (a ∷ p) [] all n is = absurd all
 meet_grown (a ∷ p) (b ∷ q) all n is =
     let both = and_parts (a.set n) (meet p n) is in and_from (b.set n) (meet q n) (all.0.set n both.0) (meet_grown p q all.1 n both.1)
 
-more_below : (id : ValueId) (a b : Set) → IsBelow a b → IsBelow (with_member (Some id) a) (with_member (Some id) b)
+pub more_below : (id : ValueId) (a b : Set) → IsBelow a b → IsBelow (with_member (Some id) a) (with_member (Some id) b)
 more_below id a b below n is = more (nat_eq n id.0) (a n) (b n) (below n) is
   where
     more : (same x y : Bool) → (x ≡ true → y ≡ true) → (same || x) ≡ true → (same || y) ≡ true

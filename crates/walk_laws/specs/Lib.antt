@@ -10,3 +10,5 @@ pub mod PairsLaws
 pub mod GrownLaws
 pub mod DistinctLaws
 pub mod FreshLaws
+pub mod FitsLaws
+pub mod PlacedLaws

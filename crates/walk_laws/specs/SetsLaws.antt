@@ -71,7 +71,7 @@ all_in : (list : List ValueId) → AllByRecursion (IsIn (meet [])) list
 all_in [] = tt
 all_in (id ∷ list) = (refl, all_in list)
 
-meet_closed : (made : Made) (edges : List Edge) → AllByRecursion (SetHas (Closed made)) edges → Closed made (meet edges)
+pub meet_closed : (made : Made) (edges : List Edge) → AllByRecursion (SetHas (Closed made)) edges → Closed made (meet edges)
 meet_closed made [] all id is = all_in (made id)
 meet_closed made (edge ∷ edges) all id is =
     let both = and_parts (edge.set id.0) (meet edges id.0) is in
@@ -94,7 +94,7 @@ member_closed made (Some new) set closed own = λ id is.
     (λ old. closed id old)
     (or_cases (nat_eq id.0 new.0) (set id.0) is))
 
-phis_closed : (made : Made) (phis : List Phi) (set : Set) → AllByRecursion (λ phi. made phi.value ≡ []) phis → Closed made set → Closed made (set_after_phis phis set)
+pub phis_closed : (made : Made) (phis : List Phi) (set : Set) → AllByRecursion (λ phi. made phi.value ≡ []) phis → Closed made set → Closed made (set_after_phis phis set)
 phis_closed made [] set makes closed = closed
 phis_closed made (phi ∷ phis) set makes closed =
     phis_closed made phis (with_member (Some phi.value) set) makes.1
@@ -103,11 +103,11 @@ phis_closed made (phi ∷ phis) set makes closed =
     some_same : (a b : ValueId) → Some a ≡ Some b → a ≡ b
     some_same a b h = cc
 
-listed : (set : Set) (list : List ValueId) → ((id : ValueId) (at : ℕ) → slice_get list at ≡ Some id → set id.0 ≡ true) → AllByRecursion (IsIn set) list
+pub listed : (set : Set) (list : List ValueId) → ((id : ValueId) (at : ℕ) → slice_get list at ≡ Some id → set id.0 ≡ true) → AllByRecursion (IsIn set) list
 listed set [] h = tt
 listed set (id ∷ list) h = (h id 0 refl, listed set list (λ other at is. h other (suc at) is))
 
-instrs_closed : (made : Made) (instrs : List Instr) (set : Set) → AllByRecursion (InstrMakes made) instrs → InstrsWalked set instrs → Closed made set → Closed made (set_after_instrs instrs set)
+pub instrs_closed : (made : Made) (instrs : List Instr) (set : Set) → AllByRecursion (InstrMakes made) instrs → InstrsWalked set instrs → Closed made set → Closed made (set_after_instrs instrs set)
 instrs_closed made [] set makes walked closed = closed
 instrs_closed made (instr ∷ instrs) set makes walked closed =
     instrs_closed made instrs (set_after instr set) makes.1 walked.1

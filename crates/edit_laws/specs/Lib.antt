@@ -1,0 +1,5 @@
+pub mod NumbersLaws
+pub mod ItemsLaws
+pub mod PlacedLaws
+pub mod DefiningLaws
+pub mod KindsLaws
