@@ -1,8 +1,9 @@
 //! A file as a source.
 
-ghost use Rattle.std.specs.Prelude.{◌≡◌, ℕ, ◌^◌, ◌<◌, ◌≤◌, None, IfOk, OnOk, OnErr, length, take};
+ghost use Rattle.std.specs.Prelude.{◌≡◌, ℕ, ◌^◌, ◌<◌, ◌≤◌, None, IfOk, IsErr, OnOk, OnErr, length};
 ghost use Rattle.nir_host.specs.Faults.{next_count, Rose};
 
+use crate::counted::read_counted;
 use crate::fault::{Failed, raised};
 use crate::source::Source;
 use std::fs::File;
@@ -44,50 +45,26 @@ impl Source for FileSource {
     ghost faults = { λ s. s };
 
     fn read(&mut self, into: &mut [u8]) -> Result<usize, Failed> {
-        let answer = read_opened(&mut self.file, into);
-        if answer.is_err() {
-            self.faults = raised(self.faults);
-        }
-        answer
+        read_opened(&mut self.file, &mut self.faults, into)
     }
 }
 
-// Reads from the file, if it was opened.
-fn read_opened(file: &mut Option<File>, into: &mut [u8]) -> Result<usize, Failed>
-    ensures { IfOk result (λ n. n ≤ length into.new) }
+// Reads from what was opened. Where nothing was, the read fails.
+fn read_opened<R: Read>(
+    file: &mut Option<R>,
+    faults: &mut u64,
+    into: &mut [u8],
+) -> Result<usize, Failed>
+    ensures within { IfOk result (λ n. n ≤ length into.new) }
+    ensures not_opened { file.old ≡ None → IsErr result }
+    ensures no_fault { OnOk result (faults.new ≡ faults.old) }
+    ensures failed { OnErr result (faults.new ≡ next_count faults.old) }
 {
     match file {
-        Some(file) => file.read(into).map_err(|_error| Failed),
-        None => Err(Failed),
-    }
-}
-
-#[cfg(test)]
-mod tests {
-    use super::*;
-    use crate::reading::read_all;
-    use std::fs;
-    use std::test::Fail;
-
-    #[test]
-    fn a_missing_file_fails_at_each_read(rt: HostRuntime) {
-        let mut source = FileSource::open(&rt, "there-is-no-such-file");
-        let mut buffer = [0; 4];
-        for faults in 1..3 {
-            assert_eq!(rt; source.read(&mut buffer), Err(Failed));
-            assert_eq!(rt; source.faults, faults);
+        Some(file) => read_counted(file, faults, into),
+        None => {
+            *faults = raised(*faults);
+            Err(Failed)
         }
-    }
-
-    #[test]
-    fn a_file_is_read_to_its_end(rt: HostRuntime) -> Result<(), Fail> {
-        let path = "file-source-of-a-test";
-        fs::write(&rt, path, "some text")?;
-        let mut source = FileSource::open(&rt, path);
-        let all = read_all(rt.alloc(), &mut source, 100)?;
-        fs::remove_file(&rt, path)?;
-        assert_eq!(rt; all.as_slice(), b"some text".as_slice());
-        assert_eq!(rt; source.faults, 0);
-        Ok(())
     }
 }

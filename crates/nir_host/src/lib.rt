@@ -1,6 +1,7 @@
 //! The outside of the optimiser: bytes, sources and sinks, their faults, and the one list type of all crates.
 #![tactic(auto)]
 
+mod counted;
 mod fault;
 mod file;
 mod mem_sink;
@@ -11,8 +12,6 @@ mod seq;
 mod sink;
 mod source;
 mod standard;
-#[cfg(test)]
-mod tests;
 mod writing;
 
 pub use fault::{Failed, Which};

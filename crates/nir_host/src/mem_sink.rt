@@ -68,6 +68,7 @@ impl Sink for MemSink {
         ensures within { IfOk result (λ n. n ≤ length from.now) }
         ensures bytes { IfOk result (λ n. Gains (Some self.old.taken) (Some self.new.taken) (take n from.now)) }
         ensures none { IfOk result (λ n. n ≡ 0 → 0 < length from.now → Rose self.old.faults self.new.faults) }
+        ensures no_fault { IfOk result (λ n. 0 < n → self.new.faults ≡ self.old.faults) }
         ensures failed { OnErr result (Rose self.old.faults self.new.faults) }
         ensures stays { OnErr result (Some self.new.taken ≡ Some self.old.taken) }
         ensures never_fall { self.old.faults ≤ self.new.faults }

@@ -1,6 +1,6 @@
 //! A source over bytes in memory, whose calls fail where they were told to.
 
-ghost use Rattle.std.specs.Prelude.{◌≡◌, ℕ, ◌^◌, ◌<◌, ◌≤◌, ◌↔◌, length, take, drop, min, Some, IfOk, IsErr, OnErr};
+ghost use Rattle.std.specs.Prelude.{◌≡◌, ℕ, ◌^◌, ◌<◌, ◌≤◌, ◌↔◌, length, take, drop, min, Some, IfOk, IsErr, OnOk, OnErr};
 ghost use Rattle.std.specs.List.{Contains};
 ghost use Rattle.nir_host.specs.Faults.{next_count, Rose};
 ghost use Rattle.nir_host.specs.Told.{IsSpent, Loses};
@@ -59,6 +59,7 @@ impl Source for MemSource {
         ensures within { IfOk result (λ n. n ≤ length into.new) }
         ensures bytes { IfOk result (λ n. Loses (Some self.old.left) (Some self.new.left) (take n into.new)) }
         ensures end { IfOk result (λ n. n ≡ 0 → 0 < length into.new → IsSpent (Some self.new.left)) }
+        ensures no_fault { OnOk result (self.new.faults ≡ self.old.faults) }
         ensures failed { OnErr result (Rose self.old.faults self.new.faults) }
         ensures stays { OnErr result (Some self.new.left ≡ Some self.old.left) }
         ensures never_fall { self.old.faults ≤ self.new.faults }

@@ -24,13 +24,14 @@ const PIECE: usize = 4096;
 
 /// All bytes that the source has left, read piece by piece to the end.
 ///
-/// `ReadFault` comes only where a fault was counted in this call, and `TooLong` exactly where more
-/// than `max` bytes were taken. After a refusal the source has lost what was taken. Each turn takes a
+/// `ReadFault` comes only where a fault was counted in this call, and every other answer where none was.
+/// `TooLong` comes exactly where more than `max` bytes were taken. After a refusal the source has lost what was taken. Each turn takes a
 /// byte or ends the loop, so a source that never ends is too long in the end.
 pub fn read_all<S: Source>(alloc: Global, src: &mut S, max: u64) -> Result<Bytes, ReadAllFault>
     ensures told { (before : List ℕ) → S.left src.old ≡ Some before → ReadsAll before (S.left src.new) max result }
     ensures short { IfOk result (λ bytes. length bytes ≤ max) }
     ensures read_fault { result ≡ Err ReadAllFault.ReadFault → Rose (S.faults src.old) (S.faults src.new) }
+    ensures no_fault { result ≢ Err ReadAllFault.ReadFault → S.faults src.new ≡ S.faults src.old }
     ensures never_fall { S.faults src.old ≤ S.faults src.new }
 {
     let mut bytes = Bytes::new(alloc);

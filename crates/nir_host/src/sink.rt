@@ -15,11 +15,13 @@ pub trait Sink {
     ghost faults: { Self → ℕ };
 
     /// Takes the front of the piece, and answers how many bytes. 0 for a piece that is not empty is
-    /// a fault, which is counted. After `Failed` nothing was taken, and the fault is counted.
+    /// a fault, which is counted, and where some were taken none is. After `Failed` nothing was taken, and
+    /// the fault is counted.
     fn write(&mut self, from: &[u8]) -> Result<usize, Failed>
         ensures within { IfOk result (λ n. n ≤ length from.now) }
         ensures bytes { IfOk result (λ n. Gains (taken self.old) (taken self.new) (take n from.now)) }
         ensures none { IfOk result (λ n. n ≡ 0 → 0 < length from.now → Rose (faults self.old) (faults self.new)) }
+        ensures no_fault { IfOk result (λ n. 0 < n → faults self.new ≡ faults self.old) }
         ensures failed { OnErr result (Rose (faults self.old) (faults self.new)) }
         ensures stays { OnErr result (taken self.new ≡ taken self.old) }
         ensures never_fall { faults self.old ≤ faults self.new }

@@ -3,10 +3,11 @@
 ghost use Rattle.std.specs.Prelude.{◌≡◌, ℕ, ◌^◌, ◌<◌, ◌≤◌, None, IfOk, OnOk, OnErr, length};
 ghost use Rattle.nir_host.specs.Faults.{next_count};
 
-use crate::fault::{Failed, raised};
+use crate::counted::{read_counted, write_counted};
+use crate::fault::Failed;
 use crate::sink::Sink;
 use crate::source::Source;
-use std::io::{Read, Stderr, Stdin, Stdout, Write};
+use std::io::{Stderr, Stdin, Stdout};
 use std::marker::Model;
 
 /// Standard input. It tells nothing of its bytes, and contracts see its count of faults.
@@ -87,13 +88,7 @@ impl Source for StdinSource {
     ghost faults = { λ s. s };
 
     fn read(&mut self, into: &mut [u8]) -> Result<usize, Failed> {
-        match self.stdin.read(into) {
-            Ok(count) => Ok(count),
-            Err(_error) => {
-                self.faults = raised(self.faults);
-                Err(Failed)
-            }
-        }
+        read_counted(&mut self.stdin, &mut self.faults, into)
     }
 }
 
@@ -103,11 +98,7 @@ impl Sink for StdoutSink {
     ghost faults = { λ s. s };
 
     fn write(&mut self, from: &[u8]) -> Result<usize, Failed> {
-        let answer = write_some(&mut self.stdout, from);
-        if answer.is_err() {
-            self.faults = raised(self.faults);
-        }
-        answer
+        write_counted(&mut self.stdout, &mut self.faults, from)
     }
 }
 
@@ -117,48 +108,6 @@ impl Sink for StderrSink {
     ghost faults = { λ s. s };
 
     fn write(&mut self, from: &[u8]) -> Result<usize, Failed> {
-        let answer = write_some(&mut self.stderr, from);
-        if answer.is_err() {
-            self.faults = raised(self.faults);
-        }
-        answer
-    }
-}
-
-// One write, of which taking nothing of a piece that is not empty is a failure too.
-fn write_some<W: Write>(to: &mut W, from: &[u8]) -> Result<usize, Failed>
-    ensures within { IfOk result (λ n. n ≤ length from.now) }
-    ensures some { IfOk result (λ n. 0 < length from.now → 0 < n) }
-{
-    match to.write(from) {
-        Ok(count) if count > 0 || from.is_empty() => Ok(count),
-        Ok(_none) => Err(Failed),
-        Err(_error) => Err(Failed),
-    }
-}
-
-#[cfg(test)]
-mod tests {
-    use super::*;
-
-    #[test]
-    fn standard_input_gives_no_more_than_the_buffer_holds(rt: HostRuntime) {
-        let mut source = StdinSource::new(rt.stdin());
-        assert_eq!(rt; source.read(&mut []), Ok(0));
-        assert_eq!(rt; source.faults, 0);
-    }
-
-    #[test]
-    fn standard_output_takes_a_line(rt: HostRuntime) {
-        let mut sink = StdoutSink::new(rt.stdout());
-        assert_eq!(rt; sink.write(b"to output\n"), Ok(10));
-        assert_eq!(rt; sink.faults, 0);
-    }
-
-    #[test]
-    fn standard_error_takes_a_line(rt: HostRuntime) {
-        let mut sink = StderrSink::new(rt.stderr());
-        assert_eq!(rt; sink.write(b"to error\n"), Ok(9));
-        assert_eq!(rt; sink.faults, 0);
+        write_counted(&mut self.stderr, &mut self.faults, from)
     }
 }

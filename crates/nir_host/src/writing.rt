@@ -13,10 +13,11 @@ pub struct WriteFault;
 
 /// Writes until the sink has taken all the bytes.
 ///
-/// `WriteFault` comes only where a fault was counted in this call. The sink then has taken a front of
+/// `WriteFault` comes only where a fault was counted in this call, and `Ok` where none was. After a fault the sink then has taken a front of
 /// the bytes, and not all.
 pub fn write_all<K: Sink>(sink: &mut K, bytes: &[u8]) -> Result<(), WriteFault>
     ensures ok { OnOk result (Gains (K.taken sink.old) (K.taken sink.new) bytes.now) }
+    ensures no_fault { OnOk result (K.faults sink.new ≡ K.faults sink.old) }
     ensures prefix { OnErr result ((before : List ℕ) → K.taken sink.old ≡ Some before → TakesFront before (K.taken sink.new) bytes.now) }
     ensures write_fault { OnErr result (Rose (K.faults sink.old) (K.faults sink.new)) }
     ensures never_fall { K.faults sink.old ≤ K.faults sink.new }

@@ -6,8 +6,6 @@ mod op;
 mod props;
 mod row;
 mod table;
-#[cfg(test)]
-mod tests;
 mod width;
 
 pub use lookup::{names_are_distinct, op_by_bytes, op_by_name};

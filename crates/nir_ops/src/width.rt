@@ -3,9 +3,10 @@
 ghost use Rattle.std.specs.Prelude.{◌≡◌};
 ghost use Rattle.nir_ops.specs.Width.{width_bits};
 
-/// The bit size of each component of a value.
-#[derive(Clone, Copy, Debug, PartialEq, Eq)]
+/// The bit size of each component of a value. The least is the default.
+#[derive(Clone, Copy, Debug, Default, PartialEq, Eq)]
 pub enum Width {
+    #[default]
     W1,
     W8,
     W16,

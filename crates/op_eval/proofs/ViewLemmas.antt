@@ -1,7 +1,6 @@
 -- Lists of components: how the lists of a call are made, and which calls gather.
 use Rattle.std.proofs.Common.{◌≡◌, ℕ, zero, suc, ◌+◌, ◌<◌, ◌≤◌, ◌^◌, List, [], ◌∷◌, ◌++◌, Some, true, refl, sym, ◌∙◌, ap, subst, arith, length, get_or, take, map, lit≤, replicate}
 use Rattle.std.proofs.lemmas.List.{get_or-map}
-use Rattle.std.proofs.Math.Seq.{take-length}
 use Rattle.std.specs.Prelude.{slice_index, slice_get, option_map}
 use Rattle.std.specs.List.{range_with_len}
 use Rattle.std.proofs.lemmas.List.FromFn.{length-map-range_with_len, map-range_with_len_more}
@@ -235,23 +234,3 @@ made_count f list count e = ap length e ∙ length-map-range_with_len f 0 count
 pub made_more : (f : ℕ → ℕ) (list more : List ℕ) (x count : ℕ) → list ≡ map f (range_with_len 0 count) → x ≡ f count → more ≡ list ++ x ∷ [] → more ≡ map f (range_with_len 0 (count + 1))
 made_more f list more x count e g h =
     h ∙ ap (λ l. l ++ x ∷ []) e ∙ ap (λ y. map f (range_with_len 0 count) ++ y ∷ []) g ∙ sym (map-range_with_len_more f 0 count count (omega arith))
-
-pub take_whole : {A : Type 0} (list : List A) (count : ℕ) → count ≡ length list → take count list ≡ list
-take_whole list count all = ap (λ n. take n list) all ∙ take-length list
-
--- components of short lists are below a bound
-pub one_small : (a bound : ℕ) → a < bound → 0 < bound → (at : ℕ) → slice_index (a ∷ []) at < bound
-one_small a bound h positive zero = h
-one_small a bound h positive (suc at) = positive
-
-pub two_small : (a b bound : ℕ) → a < bound → b < bound → 0 < bound → (at : ℕ) → slice_index (a ∷ b ∷ []) at < bound
-two_small a b bound h g positive zero = h
-two_small a b bound h g positive (suc at) = one_small b bound g positive at
-
-pub three_small : (a b c bound : ℕ) → a < bound → b < bound → c < bound → 0 < bound → (at : ℕ) → slice_index (a ∷ b ∷ c ∷ []) at < bound
-three_small a b c bound h g f positive zero = h
-three_small a b c bound h g f positive (suc at) = two_small b c bound g f positive at
-
-pub four_small : (a b c d bound : ℕ) → a < bound → b < bound → c < bound → d < bound → 0 < bound → (at : ℕ) → slice_index (a ∷ b ∷ c ∷ d ∷ []) at < bound
-four_small a b c d bound h g f e positive zero = h
-four_small a b c d bound h g f e positive (suc at) = three_small b c d bound g f e positive at

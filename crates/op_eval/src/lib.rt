@@ -16,10 +16,6 @@ mod saturate;
 mod shape;
 mod shift;
 mod size;
-#[cfg(test)]
-mod tests;
-#[cfg(test)]
-mod values;
 mod view;
 mod whole;
 mod whole_list;

@@ -1,4 +1,4 @@
-use Rattle.std.proofs.Common.{◌≤◌, ◌-◌, length}
+use Rattle.std.proofs.Common.{◌≡◌, ◌≤◌, ◌-◌, length}
 use Rattle.nir_host.specs.Told.{Loses}
 use Rattle.nir_host.proofs.reading.read_all.Given as goal
 
@@ -9,7 +9,7 @@ invariant-pieces g l =
     record {
       short : length l.bytes ≤ l.max;
       told : Loses (left l.fn.src) (left l.src) l.bytes;
-      faults : faults l.fn.src ≤ faults l.src;
+      faults : faults l.src ≡ faults l.fn.src;
     }
 
 abbrev pub decreases-pieces : goal.decreases-pieces

@@ -1,4 +1,4 @@
-use Rattle.std.proofs.Common.{◌≤◌, ◌-◌, length, take}
+use Rattle.std.proofs.Common.{◌≡◌, ◌≤◌, ◌-◌, length, take}
 use Rattle.nir_host.specs.Told.{Gains}
 use Rattle.nir_host.proofs.writing.write_all.Given as goal
 
@@ -9,7 +9,7 @@ invariant-pieces g l =
     record {
       within : l.done ≤ length l.bytes;
       told : Gains (taken l.fn.sink) (taken l.sink) (take l.done l.bytes);
-      faults : faults l.fn.sink ≤ faults l.sink;
+      faults : faults l.sink ≡ faults l.fn.sink;
     }
 
 abbrev pub decreases-pieces : goal.decreases-pieces

@@ -1,7 +1,8 @@
 use Rattle.std.proofs.Common.{◌<◌, ◌^◌, ◌∙◌, sym, subst, ap, arith, map}
 use Rattle.std.specs.Prelude.{slice_index}
 use Rattle.nir_ops.specs.Width.{width_bits}
-use Rattle.op_eval.proofs.ViewLemmas.{column_views, gathered_small, take_whole}
+use Rattle.list_laws.specs.PlaceLaws.{take_whole}
+use Rattle.op_eval.proofs.ViewLemmas.{column_views, gathered_small}
 use Rattle.op_eval.proofs.whole_list.gather.Goals as goal
 
 pub returns-clause-value : goal.returns-clause-value

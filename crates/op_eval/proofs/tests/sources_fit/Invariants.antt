@@ -1,7 +1,0 @@
-use Rattle.std.proofs.Common.{◌≡◌, map, take}
-use Rattle.op_eval.specs.Calls.{size_at}
-use Rattle.op_eval.proofs.tests.sources_fit.Given as goal
-
-abbrev pub invariant-loop-at : goal.invariant-loop-at
-invariant-loop-at l =
-    map (λ input. size_at input.kind.size l.width) (take l.at l.sources) ≡ map (λ word. word.width) (take l.at l.words)
