@@ -1,7 +1,7 @@
 //! The list type on which the list types of all crates stand.
 
-ghost use Rattle.std.specs.Prelude.{◌≡◌, [], ◌∷◌, ◌++◌, ◌<◌, length, slice_get, slice_set, ◌↔◌, IsTrue, IfOk, OnOk, OnErr, OnSome};
-ghost use Rattle.std.specs.Option.{option_copied};
+ghost use Rattle.std.specs.Prelude.{◌≡◌, [], ◌∷◌, ◌++◌, ◌<◌, ◌-◌, length, take, slice_get, slice_set, ◌↔◌, IsTrue, IsSome, IfOk, OnOk, OnErr, OnSome};
+ghost use Rattle.std.specs.Option.{option_copied, option_to_list};
 ghost use Rattle.std.specs.Borrow.{sem};
 ghost use Rattle.nir_host.specs.Lending.{LendsItem};
 
@@ -79,6 +79,16 @@ impl<T> Seq<T> {
         ensures within { OnSome result (at < length self.now) }
     {
         self.items.get(at)
+    }
+
+    /// The last item, which the list loses. None where the list is empty.
+    pub fn pop(&mut self) -> Option<T>
+        ensures parts { self.old ≡ self.new ++ option_to_list result }
+        ensures rest { self.new ≡ take (length self.old - 1) self.old }
+        ensures value { result ≡ slice_get self.old (length self.old - 1) }
+        ensures variant { IsSome result ↔ (0 < length self.old) }
+    {
+        self.items.pop()
     }
 
     /// Lends the item at a place below the length.
