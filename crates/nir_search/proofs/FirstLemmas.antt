@@ -1,7 +1,7 @@
 -- What a walk along the search side of a rule at 8 bits says of a match.
-use Rattle.std.specs.Prelude.{◌≡◌, refl, ◌+◌, ◌<◌, ◌-◌, ℕ, zero, suc, List, [], ◌∷◌, Option, Some, None, Bool, true, false, ◌&&◌, length, replicate, slice_get, if◌then◌else◌}
-use Rattle.std.proofs.Common.{sym, ◌∙◌, ap, subst, drop, get_or, arith}
-use Rattle.std.proofs.lemmas.Bool.{true≢false}
+use Rattle.std.specs.Prelude.{◌≡◌, refl, ◌+◌, ◌<◌, ◌≤◌, ◌-◌, ℕ, zero, suc, List, [], ◌∷◌, ◌++◌, Option, Some, None, Bool, true, false, ◌&&◌, length, replicate, slice_get, sum_by, if◌then◌else◌}
+use Rattle.std.proofs.Common.{sym, ◌∙◌, ap, subst, drop, take, get_or, zero-add, arith}
+use Rattle.std.proofs.lemmas.List.Sums.{sum_by-append}
 use Rattle.std.proofs.lemmas.Option.{none-some, same_Some}
 use Rattle.std.specs.List.{list_all, range_with_len}
 use Rattle.std.specs.Option.{option_map, option_or}
@@ -15,7 +15,8 @@ use Rattle.rule_term.specs.Formed.{IsFormed}
 use Rattle.rule_term.specs.EightBit.{is_eight_bit}
 use Rattle.nir_search.specs.declared.hit.Bind.{Bind}
 use Rattle.nir_search.specs.declared.matching.Walked.{Walked}
-use Rattle.nir_search.specs.Match.{all_bound, commutes, is_typed, match_of, met, root_view}
+use Rattle.rule_term.specs.Variants.{commutes}
+use Rattle.nir_search.specs.Match.{all_bound, is_typed, match_of, met, root_view}
 use Rattle.rule_term.specs.declared.when.Options.{Options}
 use Rattle.nir_search.specs.declared.hit.Hit.{Hit}
 use Rattle.nir_search.specs.First.{first_variant, hit_of, first_from}
@@ -53,20 +54,6 @@ match_is rule formed eight variant body value (Some walked) after walks =
     sym (ap (λ o. if is_typed rule (met body rule.search variant views) then option_map all_bound o else None) walks.0
     ∙ ap (λ b. if b then Some (all_bound after) else None)
     (is_typed_eight rule formed eight (met body rule.search variant views) (length-met body rule.search variant views) ∙ sym walks.2))
-
-and_left : (a b : Bool) → (a && b) ≡ true → a ≡ true
-and_left true b h = refl
-and_left false b h = h
-
-and_right : (a b : Bool) → (a && b) ≡ true → b ≡ true
-and_right true b h = h
-and_right false b h = absurd (true≢false (sym h))
-
--- what holds of all holds at a place
-pub all_at : {A : Type 0} (test : A → Bool) (list : List A) (at : ℕ) (a : A) → list_all test list ≡ true → slice_get list at ≡ Some a → test a ≡ true
-all_at test [] at a all found = absurd (none-some a found)
-all_at test (first ∷ list) zero a all found = ap test (sym (same_Some first a found)) ∙ and_left (test first) (list_all test list) all
-all_at test (first ∷ list) (suc at) a all found = all_at test list at a (and_right (test first) (list_all test list) all) found
 
 -- commutative opcodes of one list and then of another
 pub commutes-then : (a b : Terms) → commutes (lists.then a b) ≡ commutes a + commutes b
@@ -123,3 +110,14 @@ pub rule_there : (table : List Rule) (place : ℕ) → place < length table → 
 rule_there [] place less = absurd (omega (arith, less))
 rule_there (rule ∷ rest) zero less = (rule, refl)
 rule_there (rule ∷ rest) (suc place) less = rule_there rest place (omega (arith, less))
+
+-- what stands before the next place, and its sum
+take_next : {A : Type 0} (list : List A) (place : ℕ) (a : A) → slice_get list place ≡ Some a → take (place + 1) list ≡ take place list ++ a ∷ []
+take_next [] place a at = absurd (none-some a at)
+take_next (first ∷ rest) zero a at = ap (λ x. x ∷ []) (same_Some first a at)
+take_next (first ∷ rest) (suc place) a at =
+    ap (λ n. take n (first ∷ rest)) {x = suc place + 1} {y = suc (place + 1)} (omega arith) ∙ ap (λ l. first ∷ l) (take_next rest place a at)
+
+pub sum_next : {A : Type 0} (f : A → ℕ) (list : List A) (place : ℕ) (a : A) → slice_get list place ≡ Some a → sum_by f (take (place + 1) list) ≡ sum_by f (take place list) + f a
+sum_next f list place a at =
+    ap (sum_by f) (take_next list place a at) ∙ sum_by-append f (take place list) (a ∷ []) ∙ ap (λ n. sum_by f (take place list) + n) (zero-add (f a))

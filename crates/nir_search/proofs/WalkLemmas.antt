@@ -19,7 +19,8 @@ use Rattle.rule_term.specs.Pieces.{terms_count}
 use Rattle.rule_term.specs.Splits.{drop_one, terms_count-terms_of}
 use Rattle.nir_search.specs.declared.hit.Bind.{Bind}
 use Rattle.nir_search.specs.declared.matching.Walked.{Walked}
-use Rattle.nir_search.specs.Match.{matches, met, bits_behind, bits_left, bind, children, front, is_applied, is_literal, is_swapped, is_taken}
+use Rattle.rule_term.specs.Variants.{bits_behind, bits_left, is_swapped}
+use Rattle.nir_search.specs.Match.{matches, met, bind, children, front, is_applied, is_literal, is_taken}
 use Rattle.nir_search.specs.Walks.{Walks}
 
 and_then_assoc : {A : Type 0} (f g : A → Option A) (o : Option A) → option_and_then g (option_and_then f o) ≡ option_and_then (λ a. option_and_then g (f a)) o

@@ -1,6 +1,6 @@
 -- Where a rule matches, after nir_search of Mesa's NIR: a walk along the search side and along what the shader computes, in which each variable takes one view.
 use Rattle.op_eval.specs.Calls.{same_width}
-use Rattle.std.specs.Prelude.{◌+◌, ◌/◌, ◌%◌, ◌^◌, min, ℕ, ℤ, Bool, true, false, not, ◌&&◌, Option, Some, None, List, [], ◌∷◌, ◌++◌, map, replicate, nat_eq, slice_index, slice_get, slice_set, if◌then◌else◌, is_some, drop}
+use Rattle.std.specs.Prelude.{ℕ, ℤ, Bool, true, false, not, ◌&&◌, Option, Some, None, List, [], ◌∷◌, ◌++◌, map, replicate, nat_eq, slice_index, slice_get, slice_set, if◌then◌else◌, is_some, drop}
 use Rattle.std.specs.List.{list_all, list_any, range_with_len, slice_index_or}
 use Rattle.std.specs.Option.{option_and_then, option_map, option_map_or, option_to_list}
 use Rattle.std.specs.List.{flat_map}
@@ -9,7 +9,6 @@ use Rattle.std.specs.Cmp.Lexicographic.{pointwise}
 use Rattle.nir_ops.specs.declared.op.Op.{Op}
 use Rattle.nir_ops.specs.declared.width.Width.{Width}
 use Rattle.nir_ops.specs.Width.{width_bits}
-use Rattle.nir_ops.specs.Opcodes.{op_info}
 use Rattle.op_eval.specs.Word.{residue}
 use Rattle.nir_ir.specs.declared.ids.ValueId.{ValueId}
 use Rattle.nir_ir.specs.declared.instr.Src.{Src}
@@ -24,6 +23,7 @@ use Rattle.rule_term.specs.Conditions.{cond_holds}
 use Rattle.rule_term.specs.Terms.{Terms, Nil, VarThen, LitThen, AppThen}
 use Rattle.rule_term.specs.Rule.{Rule}
 use Rattle.rule_term.specs.Typings.{search_part, typings}
+use Rattle.rule_term.specs.Variants.{bits_behind, bits_left, is_swapped}
 use Rattle.nir_search.specs.declared.hit.Bind.{Bind}
 
 -- A view of a value: which of its components stand in each place. It is written as what a variable is bound to.
@@ -69,34 +69,6 @@ bind_slot (Some (Some old)) var view bound = if same_view old view then Some bou
 
 abbrev pub bind : ℕ → Bind → List (Option Bind) → Option (List (Option Bind))
 bind var view bound = bind_slot (slice_get bound var) var view bound
-
--- Variants: the commutative opcodes of the search side in preorder take one bit each of the variant's number, the lowest first.
-abbrev pub is_commutative : Op → Bool
-is_commutative op = nat_eq ((op_info op).props.0 % 2) 1
-
--- the sources of this opcode stand swapped
-abbrev pub is_swapped : Op → ℕ → Bool
-is_swapped op bits = is_commutative op && nat_eq (bits % 2) 1
-
--- the bits that are left behind the opcode, and behind terms
-abbrev pub bits_left : Op → ℕ → ℕ
-bits_left op bits = if is_commutative op then bits / 2 else bits
-
-abbrev pub bits_behind : Terms → ℕ → ℕ
-bits_behind Nil bits = bits
-bits_behind (VarThen var constant size cond rest) bits = bits_behind rest bits
-bits_behind (LitThen value boolean rest) bits = bits_behind rest bits
-bits_behind (AppThen op size once args rest) bits = bits_behind rest (bits_behind args (bits_left op bits))
-
--- how many commutative opcodes there are, and how many variants
-abbrev pub commutes : Terms → ℕ
-commutes Nil = 0
-commutes (VarThen var constant size cond rest) = commutes rest
-commutes (LitThen value boolean rest) = commutes rest
-commutes (AppThen op size once args rest) = (if is_commutative op then 1 else 0) + commutes args + commutes rest
-
-abbrev pub variant_count : Rule → ℕ
-variant_count rule = 2 ^ min 8 (commutes rule.search)
 
 -- the first two change places
 abbrev pub swapped : Bool → List Src → List Src

@@ -5,6 +5,7 @@ use Rattle.std.proofs.Common.{sym, ◌∙◌, ap, arith}
 use Rattle.std.proofs.lemmas.List.{take-replicate, length-append}
 use Rattle.std.specs.List.{list_all, list_any}
 use Rattle.std.specs.Cmp.Lexicographic.{pointwise}
+use Rattle.list_laws.specs.BoolLaws.{or_false}
 use Rattle.nir_ops.specs.declared.width.Width.{Width}
 use Rattle.nir_ops.specs.declared.width.Width.TheVariants.{W8}
 use Rattle.nir_ir.specs.Nodes.{Nodes}
@@ -15,7 +16,8 @@ use Rattle.rule_term.specs.EightBit.{is_eight_bit, all_eight}
 use Rattle.rule_term.specs.EightBitTypings.{eight_typings}
 use Rattle.rule_term.specs.Typings.{search_part, size_of}
 use Rattle.nir_search.specs.declared.hit.Bind.{Bind}
-use Rattle.nir_search.specs.Match.{bits_behind, bits_left, children, front, is_swapped, is_typed, met}
+use Rattle.rule_term.specs.Variants.{bits_behind, bits_left, is_swapped}
+use Rattle.nir_search.specs.Match.{children, front, is_typed, met}
 
 -- each node is met once
 pub length-met : (body : Nodes) (terms : Terms) (bits : ℕ) (views : List Bind) → length (met body terms bits views) ≡ size_of terms
@@ -32,10 +34,6 @@ length-met body (AppThen op size once args rest) bits views =
 beside_same : (width : Width) (list : List Width) → pointwise same_width (replicate (length list) width) list ≡ list_all (same_width width) list
 beside_same width [] = refl
 beside_same width (first ∷ list) = ap (λ b. same_width width first && b) (beside_same width list)
-
-or_false : (a : Bool) → (a || false) ≡ a
-or_false true = refl
-or_false false = refl
 
 -- the values met have the sizes of a typing where each has 8 bits
 pub is_typed_eight : (rule : Rule) → IsFormed rule → is_eight_bit rule ≡ true → (widths : List Width) → length widths ≡ size_of rule.search → is_typed rule widths ≡ list_all (same_width W8) widths

@@ -9,7 +9,8 @@ use Rattle.nir_ir.specs.Nodes.{Nodes}
 use Rattle.rule_term.specs.Terms.{Terms}
 use Rattle.nir_search.specs.declared.hit.Bind.{Bind}
 use Rattle.nir_search.specs.declared.matching.Walked.{Walked}
-use Rattle.nir_search.specs.Match.{matches, met, bits_behind, is_applied, children, child, swapped}
+use Rattle.rule_term.specs.Variants.{bits_behind}
+use Rattle.nir_search.specs.Match.{matches, met, is_applied, children, child, swapped}
 
 -- terms were matched with views: the answer says whether they match, which bits of the variant are left, and whether all values that were met have 8 bits
 abbrev pub Walks : Nodes → Terms → ℕ → List Bind → List (Option Bind) → Option Walked → List (Option Bind) → Type 0

@@ -7,7 +7,8 @@ ghost use Rattle.nir_ops.specs.Width.{width_bits};
 ghost use Rattle.op_eval.specs.Word.{residue};
 ghost use Rattle.nir_ir.specs.Definitions.{const_at, const_of, instr_defining, kind_at, kind_of_target, width_at};
 ghost use Rattle.rule_term.specs.Conditions.{cond_holds};
-ghost use Rattle.nir_search.specs.Match.{is_commutative, is_literal, is_taken, meets, same_op, viewed_const};
+ghost use Rattle.rule_term.specs.Variants.{is_commutative};
+ghost use Rattle.nir_search.specs.Match.{is_literal, is_taken, meets, same_op, viewed_const};
 
 use crate::hit::Bind;
 use bitflags::Flags;

@@ -5,17 +5,18 @@ ghost use Rattle.std.specs.List.{list_all, range_with_len};
 ghost use Rattle.rule_term.specs.Rule.{Rule as Whole};
 ghost use Rattle.rule_term.specs.EightBit.{is_eight_bit};
 ghost use Rattle.rule_term.specs.Terms.{terms_of};
-ghost use Rattle.nir_search.specs.Match.{commutes, match_of, root_view, variant_count};
-ghost use Rattle.nir_search.specs.First.{first_hit, first_from, first_variant, hit_of};
+ghost use Rattle.rule_term.specs.Variants.{commutes, variant_count};
+ghost use Rattle.nir_search.specs.Match.{match_of, root_view};
+ghost use Rattle.nir_search.specs.First.{first_hit, first_from, first_variant, hit_of, table_variants};
 
 use crate::bound::Bound;
 use crate::facts::{count_at, is_commutative};
-use crate::hit::{Hit, RuleVariant, Subst};
+use crate::hit::{Hit, Subst};
 use crate::matching::match_term;
 use crate::steps::Steps;
 use crate::view::whole_view;
 use nir_ir::{Shader, ValueId};
-use rule_term::{Options, Rule, Table, Term};
+use rule_term::{Options, Rule, RuleVariant, Table, Term};
 use std::sync::ledger::Ledger;
 
 /// What the variables of a rule at 8 bits take where this variant of it matches at the value.
@@ -39,7 +40,7 @@ fn match_at(rule: &Rule, variant: u32, shader: &Shader, value: ValueId) -> Optio
 /// What the variables of a rule take where this variant of it matches at the value; None exactly where it does
 /// not. The rules of the table stand at 8 bits alone, so far. Counts one step. A plain walk: each value on the way
 /// is sought through the shader.
-#[tactic(auto, using(crate::proofs::FirstLemmas::all_at))]
+#[tactic(auto, using(list_laws::specs::AllLaws::passes_at))]
 pub fn match_rule<L: Ledger>(
     table: &Table,
     rv: RuleVariant,
@@ -105,7 +106,8 @@ fn hit_of<L: Ledger>(
 ) -> Option<Hit>
     requires place { place < length table.now.rules }
     requires eight { list_all is_eight_bit table.now.rules ≡ true }
-    ensures { (rule : Whole) → slice_get table.now.rules place ≡ Some rule → result ≡ hit_of options.now rule place shader.now.body value }
+    ensures hit { (rule : Whole) → slice_get table.now.rules place ≡ Some rule → result ≡ hit_of options.now rule place shader.now.body value }
+    ensures counted { (rule : Whole) → slice_get table.now.rules place ≡ Some rule → steps.new ≤ steps.old + variant_count rule }
 {
     let rule = table.rule(place);
     if !rule.when.holds(options) {
@@ -132,7 +134,7 @@ fn hit_of<L: Ledger>(
 
 /// The first rule of the table that matches at the value, of which the options hold, with the first of its variants
 /// that does; None exactly where none does. The rules of the table stand at 8 bits alone, so far. A plain search
-/// through all rules and variants.
+/// through all rules and variants, which counts at most one step for each variant.
 pub fn first_match<L: Ledger>(
     table: &Table,
     options: &Options,
@@ -141,7 +143,8 @@ pub fn first_match<L: Ledger>(
     steps: &mut Steps<L>,
 ) -> Option<Hit>
     requires eight { list_all is_eight_bit table.now.rules ≡ true }
-    ensures { result ≡ first_hit options.now table.now.rules shader.now.body value }
+    ensures hit { result ≡ first_hit options.now table.now.rules shader.now.body value }
+    ensures counted { steps.new ≤ steps.old + table_variants table.now.rules }
 {
     for place in 0..table.len() {
         match hit_of(table, place as u32, options, shader, value, steps) {

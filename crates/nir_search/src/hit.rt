@@ -50,10 +50,3 @@ pub struct Hit {
     pub variant: u32,
     pub subst: Subst,
 }
-
-/// A variant of a rule: the rule's place in the table, and the variant's number.
-#[derive(Clone, Copy, Debug, PartialEq, Eq)]
-pub struct RuleVariant {
-    pub rule: u32,
-    pub variant: u32,
-}

@@ -1,4 +1,4 @@
-//! Matching of rules in shaders. So far: the counter of its steps, and the weight of a shader.
+//! Matching of rules in shaders: where a rule matches, the first that does, the counter of the steps, and the weight of a shader.
 #![tactic(auto)]
 
 mod bound;
@@ -12,6 +12,7 @@ mod weight;
 
 pub use facts::count_at;
 pub use first::{first_match, match_rule};
-pub use hit::{Bind, Hit, RuleVariant, Subst};
+pub use hit::{Bind, Hit, Subst};
+pub use rule_term::RuleVariant;
 pub use steps::Steps;
 pub use weight::{Census, count_instrs};

@@ -4,7 +4,8 @@ ghost use Rattle.op_eval.specs.Calls.{same_width};
 ghost use Rattle.std.specs.Prelude.{◌≡◌, ◌≤◌, false, [], ◌∷◌, length, List, map, None, Option};
 ghost use Rattle.std.specs.Option.{option_map};
 ghost use Rattle.rule_term.specs.Terms.{terms_of, Nil, VarThen, LitThen, AppThen};
-ghost use Rattle.nir_search.specs.Match.{bits_left, child, is_swapped, swapped};
+ghost use Rattle.rule_term.specs.Variants.{bits_left, is_swapped};
+ghost use Rattle.nir_search.specs.Match.{child, swapped};
 ghost use Rattle.nir_search.specs.Walks.{IsSources, Walks};
 ghost use Rattle.nir_search.specs.declared.hit.Bind as bind;
 

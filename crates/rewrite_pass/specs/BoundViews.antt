@@ -19,7 +19,8 @@ use Rattle.rule_term.specs.Pieces.{Piece, VarPiece, LitPiece, AppPiece, pieces, 
 use Rattle.rule_term.specs.Formed.{IsFormed, is_application, numbered}
 use Rattle.rule_term.specs.Rule.{Rule}
 use Rattle.nir_search.specs.declared.hit.Bind.{Bind}
-use Rattle.nir_search.specs.Match.{all_bound, bind, bind_slot, bits_behind, bits_left, children, is_applied, is_literal, is_swapped, is_taken, is_typed, match_of, matches, met, root_view, same_view}
+use Rattle.rule_term.specs.Variants.{bits_behind, bits_left, is_swapped}
+use Rattle.nir_search.specs.Match.{all_bound, bind, bind_slot, children, is_applied, is_literal, is_taken, is_typed, match_of, matches, met, root_view, same_view}
 use Rattle.nir_search.specs.Put.{bound_to}
 
 -- what was answered under a test, and after a first answer

@@ -37,7 +37,8 @@ use Rattle.rule_term.specs.Typings.{replace_part, search_part, size_of}
 use Rattle.op_eval.specs.Views.{shape_of}
 use Rattle.nir_search.specs.declared.hit.Bind.{Bind}
 use Rattle.nir_search.specs.declared.hit.Hit.{Hit}
-use Rattle.nir_search.specs.Match.{bits_behind, bits_left, children, has_op, is_applied, is_swapped, is_typed, match_of, matches, met, root_view}
+use Rattle.rule_term.specs.Variants.{bits_behind, bits_left, is_swapped}
+use Rattle.nir_search.specs.Match.{children, has_op, is_applied, is_typed, match_of, matches, met, root_view}
 use Rattle.nir_search.specs.Put.{root_of, put_root}
 use Rattle.nir_search.specs.Steps.{count_of, put, put_hit, put_typed, typing_with}
 use Rattle.nir_search.specs.Weight.{instr_weight, weight_of}

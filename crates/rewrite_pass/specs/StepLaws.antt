@@ -19,7 +19,8 @@ use Rattle.rule_term.specs.Rule.{Rule}
 use Rattle.nir_search.specs.declared.hit.Bind.{Bind}
 use Rattle.nir_search.specs.declared.hit.Hit.{Hit}
 use Rattle.nir_search.specs.First.{first_from, first_hit, first_variant, hit_of}
-use Rattle.nir_search.specs.Match.{match_of, variant_count}
+use Rattle.rule_term.specs.Variants.{variant_count}
+use Rattle.nir_search.specs.Match.{match_of}
 use Rattle.nir_search.specs.Steps.{is_settled, replay, step_of}
 use Rattle.rewrite_pass.specs.Built.{is_built, is_leaf}
 use Rattle.rewrite_pass.specs.Rewriting.{IsHit, Rewrites}

@@ -33,7 +33,8 @@ use Rattle.rule_term.specs.EightBitLaws.{one_size}
 use Rattle.rule_term.specs.Formed.{may_stand}
 use Rattle.rule_term.specs.Standing.{per_component-from_may_stand, shape-from_may_stand}
 use Rattle.nir_search.specs.declared.hit.Bind.{Bind}
-use Rattle.nir_search.specs.Match.{child, children, children_of, has_op, is_commutative, swapped, viewed_const}
+use Rattle.rule_term.specs.Variants.{is_commutative}
+use Rattle.nir_search.specs.Match.{child, children, children_of, has_op, swapped, viewed_const}
 use Rattle.nir_mean.specs.Known.{IsKnown}
 use Rattle.nir_validate.specs.Edges.{Set}
 use Rattle.nir_mean.specs.Points.{Closed}

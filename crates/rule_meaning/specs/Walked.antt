@@ -34,7 +34,8 @@ use Rattle.rule_term.specs.Pieces.{LitPiece, pieces, terms_count, var_of, vars_o
 use Rattle.rule_term.specs.Terms.{Terms, Nil, VarThen, LitThen, AppThen}
 use Rattle.rule_term.specs.Typings.{occurrences, roots, size_of}
 use Rattle.nir_search.specs.declared.hit.Bind.{Bind}
-use Rattle.nir_search.specs.Match.{bind, bits_behind, bits_left, children, has_op, is_applied, is_commutative, is_literal, is_swapped, is_taken, matches, meets, met}
+use Rattle.rule_term.specs.Variants.{bits_behind, bits_left, is_commutative, is_swapped}
+use Rattle.nir_search.specs.Match.{bind, children, has_op, is_applied, is_literal, is_taken, matches, meets, met}
 use Rattle.nir_mean.specs.Known.{IsKnown}
 use Rattle.nir_validate.specs.Edges.{Set}
 use Rattle.nir_mean.specs.Values.{Values}

@@ -1,10 +1,11 @@
 -- Whether terms stand at 8 bits, by their first.
-use Rattle.std.specs.Prelude.{◌≡◌, refl, ◌<◌, ◌+◌, ℕ, ℤ, Bool, true, false, ◌&&◌, ◌||◌, Option, List, [], ◌∷◌, ◌++◌, length}
+use Rattle.std.specs.Prelude.{◌≡◌, refl, ◌<◌, ◌+◌, ℕ, ℤ, Bool, false, ◌&&◌, ◌||◌, Option, List, [], ◌∷◌, ◌++◌, length}
 use Rattle.std.proofs.Common.{sym, ◌∙◌, ap, get_or, drop}
 use Rattle.std.proofs.Math.Bool.{and-true}
 use Rattle.std.proofs.lemmas.List.{append-nil}
 use Rattle.std.proofs.lemmas.List.Folds.{list_all-append}
 use Rattle.std.specs.List.{list_all, list_any}
+use Rattle.list_laws.specs.BoolLaws.{or_assoc, or_false}
 use Rattle.nir_ops.specs.declared.op.Op.{Op}
 use Rattle.nir_ops.specs.declared.width.Width.{Width}
 use Rattle.rule_term.specs.declared.cond.Cond.{Cond}
@@ -34,14 +35,6 @@ eight-drop list i t within at =
     ∙ list_all-append eight_piece (pieces (terms_of (t ∷ []))) (pieces (terms_of (drop (i + 1) list)))
 
 pub ruleset eight_steps = (eight-var, eight-lit, eight-app, eight-drop)
-
-or_false : (a : Bool) → (a || false) ≡ a
-or_false true = refl
-or_false false = refl
-
-or_assoc : (a b c : Bool) → ((a || b) || c) ≡ (a || (b || c))
-or_assoc true b c = refl
-or_assoc false b c = refl
 
 list_any-append : {A : Type 0} (test : A → Bool) (first second : List A) → list_any test (first ++ second) ≡ (list_any test first || list_any test second)
 list_any-append test [] second = refl

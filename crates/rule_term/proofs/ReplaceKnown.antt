@@ -1,33 +1,22 @@
 -- The occurrences of variables are noted where those of one variable have one size, and then each is known.
 use Rattle.op_eval.specs.Sizes.{same_width-refl, same_width-same}
 use Rattle.op_eval.specs.Calls.{same_width}
-use Rattle.std.specs.Prelude.{◌≡◌, refl, ◌<◌, ℕ, zero, suc, Bool, true, false, not, ◌&&◌, Option, Some, None, List, [], ◌∷◌, ◌++◌, length, cond, map, nat_eq, nat_lt, slice_get, replicate}
+use Rattle.std.specs.Prelude.{◌≡◌, refl, ◌<◌, ℕ, zero, suc, Bool, true, not, ◌&&◌, Option, Some, None, List, [], ◌∷◌, ◌++◌, length, cond, map, nat_eq, nat_lt, slice_get, replicate}
 use Rattle.std.proofs.Common.{◌∙◌, ◌⊎◌, ap, sym, subst, arith, set, ⊎_elim, inl, inr}
 use Rattle.std.proofs.lemmas.Bool.{and_parts, and_from, or_cases, or_left, or_right, ltb-true, eqb-true, eq-eqb, cases_Bool, false≢true, cases_order}
 use Rattle.std.proofs.lemmas.List.{length-set, length-replicate}
 use Rattle.std.proofs.lemmas.List.Folds.{list_all-append, list_any-append}
-use Rattle.std.proofs.lemmas.Option.{none-some}
+use Rattle.std.proofs.lemmas.Option.{none-some, same_Some}
 use Rattle.std.specs.List.{list_all, list_any}
-use Rattle.std.specs.Option.{option_and_then, unwrap_or}
+use Rattle.std.specs.Option.{option_and_then}
+use Rattle.list_laws.specs.OptionLaws.{between, if_some}
+use Rattle.list_laws.specs.PlaceLaws.{get_set_other, get_set_same}
 use Rattle.nir_ops.specs.declared.width.Width.{Width}
 use Rattle.rule_term.specs.Typings.{Occurrence, alike, agree}
 use Rattle.rule_term.specs.ReplaceLeast.{is_known, knows, noted, noted_at, noted_one}
 
 abbrev pub Known : Type 0
 Known = List (Option Width)
-
--- a read where something was written, and elsewhere
-get_set_same : {A : Type 0} (list : List A) (i : ℕ) (a x : A) → slice_get list i ≡ Some x → slice_get (set list i a) i ≡ Some a
-get_set_same [] i a x h = absurd (none-some x h)
-get_set_same (y ∷ list) zero a x h = refl
-get_set_same (y ∷ list) (suc i) a x h = get_set_same list i a x h
-
-get_set_other : {A : Type 0} (list : List A) (i j : ℕ) (a : A) → (j ≡ i → ⊥) → slice_get (set list i a) j ≡ slice_get list j
-get_set_other [] i j a other = refl
-get_set_other (y ∷ list) zero zero a other = absurd (other refl)
-get_set_other (y ∷ list) zero (suc j) a other = refl
-get_set_other (y ∷ list) (suc i) zero a other = refl
-get_set_other (y ∷ list) (suc i) (suc j) a other = get_set_other list i j a (λ e. other (ap suc e))
 
 get_within : {A : Type 0} (list : List A) (i : ℕ) → i < length list → (x : A) × (slice_get list i ≡ Some x)
 get_within [] i within = absurd (omega arith)
@@ -49,7 +38,7 @@ pub record IsNoted (var : ℕ) (width : Width) (before after : Known) : Type 0 w
 
 noted_new : (var : ℕ) (width : Width) (before : Known) → slice_get before var ≡ Some None → IsNoted var width before (set before var (Some width))
 noted_new var width before free =
-    let written = get_set_same before var (Some width) None free in
+    let written = get_set_same before var None (Some width) free in
     record {
       kept = λ v w h.
           let other : v ≡ var → ⊥ = λ e. false≢true (sym (ap (λ o. is_known o w) (ap (slice_get before) e ∙ free)) ∙ h) in
@@ -70,32 +59,21 @@ noted_same var width old before after there same e = subst (IsNoted var width be
   long = refl;
 })
 
-some_inner : {A : Type 0} (x y : A) → Some x ≡ Some y → x ≡ y
-some_inner x y e = ap (λ o. unwrap_or o x) e
-
-cond_inner : (b : Bool) (x y : Known) → cond b (Some x) None ≡ Some y → (b ≡ true) × (x ≡ y)
-cond_inner true x y e = (refl, some_inner x y e)
-cond_inner false x y e = absurd (none-some y e)
-
 one_noted_at : (o : Option (Option Width)) (var : ℕ) (width : Width) (before after : Known) → slice_get before var ≡ o → noted_at o var width before ≡ Some after → IsNoted var width before after
 one_noted_at None var width before after is e = absurd (none-some after e)
-one_noted_at (Some None) var width before after is e = subst (IsNoted var width before) (some_inner (set before var (Some width)) after e) (noted_new var width before is)
-one_noted_at (Some (Some old)) var width before after is e = let parts = cond_inner (same_width old width) before after e in noted_same var width old before after is parts.0 parts.1
+one_noted_at (Some None) var width before after is e = subst (IsNoted var width before) (same_Some (set before var (Some width)) after e) (noted_new var width before is)
+one_noted_at (Some (Some old)) var width before after is e = let parts = if_some (same_width old width) (Some before) after e in noted_same var width old before after is parts.0 (same_Some before after parts.1)
 
 one_noted : (var : ℕ) (width : Width) (before after : Known) → noted_one var width before ≡ Some after → IsNoted var width before after
 one_noted var width before after e = one_noted_at (slice_get before var) var width before after refl e
 
-then_some : (o : Option Known) (f : Known → Option Known) (after : Known) → option_and_then f o ≡ Some after → (next : Known) × (o ≡ Some next) × (f next ≡ Some after)
-then_some None f after e = absurd (none-some after e)
-then_some (Some next) f after e = (next, refl, e)
-
 -- what is noted is known
 pub noted_known : (list : List Occurrence) (before after : Known) → noted list before ≡ Some after → ((v : ℕ) (w : Width) → knows before v w ≡ true → knows after v w ≡ true) × (list_all (λ o. knows after o.var o.width) list ≡ true)
-noted_known [] before after e = let same = some_inner before after e in (λ v w h. subst (λ (k : Known). knows k v w ≡ true) same h, refl)
+noted_known [] before after e = let same = same_Some before after e in (λ v w h. subst (λ (k : Known). knows k v w ≡ true) same h, refl)
 noted_known (o ∷ rest) before after e =
-    let step = then_some (noted_one o.var o.width before) (noted rest) after e in
-    let here = one_noted o.var o.width before step.0 step.1 in
-    let later = noted_known rest step.0 after step.2 in
+    let step = between (noted_one o.var o.width before) (noted rest) after e in
+    let here = one_noted o.var o.width before step.middle step.before in
+    let later = noted_known rest step.middle after step.behind in
     (λ v w h. later.0 v w (here.kept v w h), and_from (knows after o.var o.width) (list_all (λ o. knows after o.var o.width) rest) (later.0 o.var o.width here.noted) later.1)
 
 -- occurrences whose sizes are known agree

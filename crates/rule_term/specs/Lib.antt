@@ -20,9 +20,13 @@ pub mod Rule
 pub mod Sides
 pub mod Splits
 pub mod Standing
+pub mod SwapLaws
+pub mod Swapped
 pub mod Table
 pub mod Terms
 pub mod Typed
 pub mod Typings
+pub mod VariantLaws
+pub mod Variants
 pub mod Weights
 pub mod Worked

@@ -4,8 +4,10 @@ use Rattle.std.proofs.Common.{subst, arith}
 use Rattle.std.proofs.lemmas.List.{length-append}
 use Rattle.std.proofs.lemmas.Option.{none-some, same_Some}
 use Rattle.std.specs.Coded.{Coded, code_by, coded_list, coded×, coded_ℕ}
+use Rattle.std.specs.List.{AllByRecursion}
 use Rattle.nir_ops.specs.declared.op.Op.{Op}
 use Rattle.rule_term.specs.Rule.{Rule, rule_code}
+use Rattle.rule_term.specs.Formed.{IsFormed}
 use Rattle.rule_term.specs.Holds.{Holds}
 use Rattle.rule_term.specs.Weights.{weight_at}
 
@@ -26,6 +28,10 @@ abbrev pub AllHold : List Rule → Type 0
 AllHold [] = Unit {0}
 AllHold (rule ∷ rest) = Holds rule × AllHold rest
 
+-- each rule is formed
+abbrev pub AllFormed : List Rule → Type 0
+AllFormed rules = AllByRecursion IsFormed rules
+
 -- the number of each rule is below this one
 abbrev pub AllBelow : ℕ → List Rule → Type 0
 AllBelow number [] = Unit {0}
@@ -42,6 +48,7 @@ Rising (rule ∷ rest) = AllAbove rule.number rest × Rising rest
 
 pub record IsTable (rules : List Rule) : Type 0 where
   pub hold : AllHold rules
+  pub formed : AllFormed rules
   pub rising : Rising rules
   pub few : length rules ≤ 2 ^ 32
 
@@ -64,6 +71,10 @@ pub AllHold-add : (rules : List Rule) (rule : Rule) → AllHold rules → Holds 
 AllHold-add [] rule hold here = (here, tt)
 AllHold-add (first ∷ rest) rule hold here = (hold.0, AllHold-add rest rule hold.1 here)
 
+AllFormed-add : (rules : List Rule) (rule : Rule) → AllFormed rules → IsFormed rule → AllFormed (rules ++ rule ∷ [])
+AllFormed-add [] rule formed here = (here, tt)
+AllFormed-add (first ∷ rest) rule formed here = (formed.0, AllFormed-add rest rule formed.1 here)
+
 pub AllBelow-add : (number : ℕ) (rules : List Rule) (rule : Rule) → AllBelow number rules → rule.number < number → AllBelow number (rules ++ rule ∷ [])
 AllBelow-add number [] rule below here = (here, tt)
 AllBelow-add number (first ∷ rest) rule below here = (below.0, AllBelow-add number rest rule below.1 here)
@@ -76,11 +87,16 @@ pub Rising-add : (rules : List Rule) (rule : Rule) → Rising rules → AllBelow
 Rising-add [] rule rising below = (tt, tt)
 Rising-add (first ∷ rest) rule rising below = (AllAbove-add first.number rest rule rising.0 below.0, Rising-add rest rule rising.1 below.1)
 
-pub IsTable-add : (rules : List Rule) (rule : Rule) → IsTable rules → Holds rule → AllBelow rule.number rules → rule.number < 2 ^ 32 → IsTable (rules ++ rule ∷ [])
-IsTable-add rules rule table here below small =
+pub IsTable-add : (rules : List Rule) (rule : Rule) → IsTable rules → Holds rule → IsFormed rule → AllBelow rule.number rules → rule.number < 2 ^ 32 → IsTable (rules ++ rule ∷ [])
+IsTable-add rules rule table here formed below small =
     let few : length rules ≤ rule.number = rising_few rule.number rules table.rising below in
     let one_more : length (rules ++ rule ∷ []) ≡ length rules + 1 = length-append rules (rule ∷ []) in
-    record { hold = AllHold-add rules rule table.hold here; rising = Rising-add rules rule table.rising below; few = omega (arith, few, one_more, small) }
+    record {
+      hold = AllHold-add rules rule table.hold here;
+      formed = AllFormed-add rules rule table.formed formed;
+      rising = Rising-add rules rule table.rising below;
+      few = omega (arith, few, one_more, small);
+    }
 
 -- the rule at a place holds
 pub hold_at : (rules : List Rule) (place : ℕ) (rule : Rule) → AllHold rules → slice_get rules place ≡ Some rule → Holds rule

@@ -1,6 +1,7 @@
 //! The sizes of a rule's replacement where the nodes of its search side have certain sizes.
 
 ghost use Rattle.std.specs.Prelude.{◌≡◌, ◌<◌, ◌≤◌, ◌+◌, [], ◌∷◌, ◌++◌, length, map, Some, None, if◌then◌else◌};
+ghost use Rattle.std.specs.Option.{option_map};
 ghost use Rattle.op_eval.specs.Calls.{size_at};
 ghost use Rattle.rule_term.specs.Replaced.{replace_for};
 ghost use Rattle.rule_term.specs.ReplaceLeast.{can, knows, least};
@@ -11,71 +12,15 @@ use crate::rule::Rule;
 use crate::search_sizes::{note_term, obeys_term, size_at};
 use crate::term::Term;
 use crate::width_set::{Known, demanded, sizes_of_term, unsized_for, usable};
+use arrayvec::ArrayVec;
 use nir_ops::{OpInput, Width, info};
-use std::marker::Model;
-
-/// How many nodes a side of 16 opcodes has at most.
-const MOST: usize = 49;
-
-/// The sizes of the nodes of a replacement in preorder, of which there are at most 49. Contracts see the list.
-#[derive(Debug, Drop)]
-pub struct ReplaceWidths {
-    widths: [Width; MOST],
-    count: usize,
-}
-
-impl Model for ReplaceWidths {
-    ghost use Rattle.std.specs.Prelude.{List, ◌≤◌};
-    ghost use Rattle.std.proofs.Common.{take};
-    ghost use Rattle.nir_ops.specs.declared.width.Width.{Width};
-
-    ghost Value = { List Width };
-
-    ghost view = { λ w. take w.count w.widths };
-
-    ghost invariant = { λ w. w.count ≤ 49 };
-}
-
-impl ReplaceWidths {
-    /// The list of no sizes, which takes no memory.
-    pub fn new() -> ReplaceWidths
-        ensures { result ≡ [] }
-    {
-        ReplaceWidths {
-            widths: [Width::W1; MOST],
-            count: 0,
-        }
-    }
-
-    pub fn as_slice(&self) -> &[Width]
-        ensures value { result.now ≡ self.now }
-        ensures fits { length result.now ≤ 49 }
-    {
-        &self.widths[..self.count]
-    }
-
-    pub fn len(&self) -> usize
-        ensures { result ≡ length self.now }
-    {
-        self.as_slice().len()
-    }
-
-    /// Adds a size where there are fewer than 49.
-    pub fn push(&mut self, width: Width)
-        requires { length self.old < 49 }
-        ensures { self.new ≡ self.old ++ width ∷ [] }
-    {
-        self.widths[self.count] = width;
-        self.count += 1;
-    }
-}
 
 /// The sizes of the replacement in the first of the rule's typings whose search part has these sizes, of
 /// which there is one for each node of the search side; None exactly where there is no such typing. It
-/// takes no memory, and visits each node a few times for each opcode above it.
-pub fn replace_widths(rule: &Rule, search: &[Width]) -> Option<ReplaceWidths>
+/// takes no memory, and visits each node a few times for each opcode above it. A side of 16 opcodes has at most 49 nodes.
+pub fn replace_widths(rule: &Rule, search: &[Width]) -> Option<ArrayVec<Width, 49>>
     requires { length search.now ≡ size_of rule.now.search }
-    ensures { result ≡ replace_for rule.now search.now }
+    ensures { option_map (λ widths. widths.items) result ≡ replace_for rule.now search.now }
 {
     if !obeys_term(&rule.search, search) {
         return None;
@@ -87,23 +32,23 @@ pub fn replace_widths(rule: &Rule, search: &[Width]) -> Option<ReplaceWidths>
 }
 
 /// The least sizes of a term with this root, None where there are none.
-fn filled(term: &Term, width: Width, known: &Known) -> Option<ReplaceWidths>
+fn filled(term: &Term, width: Width, known: &Known) -> Option<ArrayVec<Width, 49>>
     requires { size_of (terms_of (term.now ∷ [])) ≤ 49 }
-    ensures { result ≡ (if can (knows known.now) (terms_of (term.now ∷ [])) (width ∷ []) then Some (least (knows known.now) (terms_of (term.now ∷ [])) (width ∷ [])) else None) }
+    ensures { option_map (λ widths. widths.items) result ≡ (if can (knows known.now) (terms_of (term.now ∷ [])) (width ∷ []) then Some (least (knows known.now) (terms_of (term.now ∷ [])) (width ∷ [])) else None) }
 {
     if !sizes_of_term(term, known).has(width) {
         return None;
     }
-    let mut widths = ReplaceWidths::new();
+    let mut widths = ArrayVec::new();
     fill_term(term, width, known, &mut widths);
     Some(widths)
 }
 
 /// Adds the least sizes of a term with this root.
 #[cycle(fill)]
-fn fill_term(term: &Term, width: Width, known: &Known, widths: &mut ReplaceWidths)
-    requires room { length widths.old + size_of (terms_of (term.now ∷ [])) ≤ 49 }
-    ensures { widths.new ≡ widths.old ++ least (knows known.now) (terms_of (term.now ∷ [])) (width ∷ []) }
+fn fill_term(term: &Term, width: Width, known: &Known, widths: &mut ArrayVec<Width, 49>)
+    requires room { length widths.old.items + size_of (terms_of (term.now ∷ [])) ≤ 49 }
+    ensures { widths.new.items ≡ widths.old.items ++ least (knows known.now) (terms_of (term.now ∷ [])) (width ∷ []) }
 {
     widths.push(width);
     match term {
@@ -125,10 +70,10 @@ fn fill_terms(
     inputs: &[OpInput],
     free: Width,
     known: &Known,
-    widths: &mut ReplaceWidths,
+    widths: &mut ArrayVec<Width, 49>,
 )
-    requires room { length widths.old + size_of (terms_of terms.now) ≤ 49 }
-    ensures { widths.new ≡ widths.old ++ least (knows known.now) (terms_of terms.now) (map (λ input. size_at input.kind.size free) inputs.now) }
+    requires room { length widths.old.items + size_of (terms_of terms.now) ≤ 49 }
+    ensures { widths.new.items ≡ widths.old.items ++ least (knows known.now) (terms_of terms.now) (map (λ input. size_at input.kind.size free) inputs.now) }
 {
     for (at, term) in terms.iter().enumerate() {
         let width = size_at(demanded(inputs, at), free);

@@ -4,7 +4,7 @@ ghost use Rattle.std.specs.Prelude.{◌≡◌, ◌≢◌, ◌<◌, ◌≤◌, �
 ghost use Rattle.nir_ops.specs.declared.op.Op.{Op as Opcode};
 ghost use Rattle.nir_ops.specs.declared.op.Op.TheVariants.{Mov};
 ghost use Rattle.rule_term.specs.Holds.{Holds};
-ghost use Rattle.rule_term.specs.Table.{AllBelow, op_weight};
+ghost use Rattle.rule_term.specs.Table.{AllBelow, AllFormed, AllHold, Rising, op_weight};
 ghost use Rattle.rule_term.specs.Weights.{place_of, weight_at, initial_weight, IsWeighed};
 
 use crate::rule::Rule;
@@ -13,8 +13,8 @@ use nir_ops::Op;
 use std::alloc::Global;
 use std::marker::Model;
 
-/// Rules in the order in which they are tried, and a weight for each opcode. Its type keeps that each rule
-/// holds (`specs/Holds.antt`), that their numbers rise, and that no weight is above 60 and that of a move is 0.
+/// Rules in the order in which they are tried, and a weight for each opcode. Its type keeps that each rule is formed
+/// (`specs/Formed.antt`) and holds (`specs/Holds.antt`), that their numbers rise, and that no weight is above 60 and that of a move is 0.
 /// Contracts see the list of the rules and that of the weights.
 #[derive(Debug, Drop)]
 pub struct Table {
@@ -61,7 +61,7 @@ impl Table {
         ensures err { OnErr result (self.new.rules ≡ self.old.rules) }
         ensures weights { self.new.weights ≡ self.old.weights }
     {
-        // The proof learns that the number is one of 32 bits, so that there are not more rules.
+        // The proof learns that the number is one of 32 bits, so that there are not more rules, and that the rule is formed.
         let _number = rule.number;
         self.rules.push(rule)
     }
@@ -94,6 +94,15 @@ impl Table {
         ensures mov { op_weight self.now Mov ≡ 0 }
     {
         let _weights = &self.weights;
+    }
+
+    /// Each rule is formed and holds, and their numbers rise: the type keeps it.
+    pub fn rules_hold(&self)
+        ensures formed { AllFormed self.now.rules }
+        ensures hold { AllHold self.now.rules }
+        ensures rising { Rising self.now.rules }
+    {
+        let _rules = &self.rules;
     }
 
     /// How many rules the table has: at most 2^32, since their numbers rise.

@@ -1,6 +1,6 @@
 use Rattle.std.proofs.Common.{arith, ◌≡◌, ◌+◌, ◌-◌, ◌∙◌, ap, sym, true, false, if◌then◌else◌}
 use Rattle.rule_term.specs.Terms.{Nil, before, before-var, before-lit, before-app, terms_of}
-use Rattle.nir_search.specs.Match.{commutes, is_commutative}
+use Rattle.rule_term.specs.Variants.{commutes, is_commutative}
 use Rattle.nir_search.proofs.FirstLemmas.{commutes-drop}
 use Rattle.nir_search.proofs.first.+commutes.Goals as goal
 

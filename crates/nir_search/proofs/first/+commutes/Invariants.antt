@@ -1,7 +1,7 @@
 -- what the terms that follow leave is what all leave
 use Rattle.std.proofs.Common.{◌≡◌, ◌-◌, drop}
 use Rattle.rule_term.specs.Terms.{terms_of}
-use Rattle.nir_search.specs.Match.{commutes}
+use Rattle.rule_term.specs.Variants.{commutes}
 use Rattle.nir_search.proofs.first.+commutes.Given as goal
 
 abbrev pub invariant-without_terms-loop-term : goal.invariant-without_terms-loop-term

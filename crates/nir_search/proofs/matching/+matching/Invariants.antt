@@ -4,7 +4,8 @@ use Rattle.std.proofs.Common.{◌≡◌, ◌&&◌, drop, map}
 use Rattle.std.specs.List.{list_all}
 use Rattle.nir_ops.specs.declared.width.Width.TheVariants.{W8}
 use Rattle.rule_term.specs.Terms.{terms_of}
-use Rattle.nir_search.specs.Match.{matches, met, bits_behind, child, swapped}
+use Rattle.rule_term.specs.Variants.{bits_behind}
+use Rattle.nir_search.specs.Match.{matches, met, child, swapped}
 use Rattle.nir_search.proofs.matching.+matching.Given as goal
 
 abbrev pub invariant-match_args-loop-at : goal.invariant-match_args-loop-at
