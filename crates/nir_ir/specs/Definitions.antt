@@ -1,5 +1,5 @@
 -- What defines the values of a shader, as in static single assignment form: each value has one phi or one instruction.
-use Rattle.std.specs.Prelude.{ℕ, List, [], ◌∷◌, Option, Some, None, Bool, nat_eq, count_by}
+use Rattle.std.specs.Prelude.{ℕ, List, [], ◌∷◌, Option, Bool, nat_eq, count_by}
 use Rattle.std.specs.Option.{option_and_then, option_map, option_map_or, option_or, option_to_list}
 use Rattle.std.specs.List.{flat_map, find, list_any}
 use Rattle.nir_ops.specs.declared.op.Op.{Op}
@@ -8,9 +8,9 @@ use Rattle.nir_ops.specs.declared.width.Width.TheVariants.{W1}
 use Rattle.nir_ir.specs.declared.ids.ValueId.{ValueId}
 use Rattle.nir_ir.specs.declared.instr.Src.{Src}
 use Rattle.nir_ir.specs.declared.instr.Instr.{Instr}
-use Rattle.nir_ir.specs.declared.instr.Instr.TheVariants.{Alu, Const, Undef, Input, Output, LoadBuf, StoreBuf}
 use Rattle.nir_ir.specs.declared.kind.Kind.{Kind}
 use Rattle.nir_ir.specs.declared.node.Phi.{Phi}
+use Rattle.nir_ir.specs.Parts.{parts}
 use Rattle.nir_ir.specs.Nodes.{Nodes}
 use Rattle.nir_ir.specs.Items.{Item, BlockHead, PhiItem, InstrItem, JumpItem, IfHead, LoopHead, items, target}
 
@@ -58,13 +58,7 @@ definition_count value nodes = count_by (is_target value) (instrs nodes)
 
 -- the kind of the value that an instruction defines
 abbrev pub kind_of_target : Instr → Option Kind
-kind_of_target (Alu value op kind srcs) = Some kind
-kind_of_target (Const value kind comps) = Some kind
-kind_of_target (Undef value kind) = Some kind
-kind_of_target (Input value kind slot) = Some kind
-kind_of_target (Output effect slot src) = None
-kind_of_target (LoadBuf value kind buffer offset) = Some kind
-kind_of_target (StoreBuf effect buffer offset src) = None
+kind_of_target instr = option_map (λ defined. defined.1) (parts instr).defines
 
 abbrev pub kinds_of : Item → List Kind
 kinds_of (BlockHead id) = []
@@ -80,23 +74,11 @@ kinds_defined nodes = flat_map kinds_of (items nodes)
 
 -- the opcode and the sources of the instruction that writes the value, where it is one with an opcode
 abbrev pub alu_of : Instr → Option (Op × List Src)
-alu_of (Alu value op kind srcs) = Some (op, srcs)
-alu_of (Const value kind comps) = None
-alu_of (Undef value kind) = None
-alu_of (Input value kind slot) = None
-alu_of (Output effect slot src) = None
-alu_of (LoadBuf value kind buffer offset) = None
-alu_of (StoreBuf effect buffer offset src) = None
+alu_of instr = (parts instr).alu
 
 -- the components of a const
 abbrev pub const_of : Instr → Option (List ℕ)
-const_of (Alu value op kind srcs) = None
-const_of (Const value kind comps) = Some comps
-const_of (Undef value kind) = None
-const_of (Input value kind slot) = None
-const_of (Output effect slot src) = None
-const_of (LoadBuf value kind buffer offset) = None
-const_of (StoreBuf effect buffer offset src) = None
+const_of instr = (parts instr).comps
 
 abbrev pub alu_at : Nodes → ValueId → Option (Op × List Src)
 alu_at body value = option_and_then alu_of (instr_defining value body)

@@ -8,9 +8,12 @@ use Rattle.std.proofs.lemmas.List.{append-nil}
 use Rattle.std.proofs.lemmas.List.Concat.{flat_map_single}
 use Rattle.std.proofs.lemmas.List.Folds.{flat_map-map}
 use Rattle.std.proofs.lemmas.List.Sums.{sum_by-cons}
-use Rattle.std.proofs.lemmas.Option.{none-some}
+use Rattle.std.proofs.lemmas.Option.{none-some, same_Some}
 use Rattle.std.specs.List.{AllByRecursion, IsDistinct, flat_map, find, list_any}
-use Rattle.std.specs.Option.{option_to_list, unwrap_or}
+use Rattle.std.specs.Option.{option_to_list}
+use Rattle.list_laws.specs.AllLaws.{all_append, all_back, all_front}
+use Rattle.list_laws.specs.BoolLaws.{or_false}
+use Rattle.list_laws.specs.MapLaws.{flat_map-flat_map, flat_map-same, map-append}
 use Rattle.nir_ir.specs.declared.ids.ValueId.{ValueId}
 use Rattle.nir_ir.specs.declared.instr.Instr.{Instr}
 use Rattle.nir_ir.specs.declared.instr.Instr.TheVariants.{Alu, Const, Undef, Input, Output, LoadBuf, StoreBuf}
@@ -32,18 +35,6 @@ item_in_place value news (IfHead id condition) = IfHead id condition ∷ []
 item_in_place value news (LoopHead id) = LoopHead id ∷ []
 
 -- lists that are joined from lists
-flat_map-same : {A B : Type 0} (f g : A → List B) → ((a : A) → f a ≡ g a) → (list : List A) → flat_map f list ≡ flat_map g list
-flat_map-same f g h [] = refl
-flat_map-same f g h (a ∷ list) = ap (λ t. t ++ flat_map f list) (h a) ∙ ap (λ t. g a ++ t) (flat_map-same f g h list)
-
-flat_map-flat_map : {A B C : Type 0} (f : A → List B) (g : B → List C) (list : List A) → flat_map g (flat_map f list) ≡ flat_map (λ a. flat_map g (f a)) list
-flat_map-flat_map f g [] = refl
-flat_map-flat_map f g (a ∷ list) = flat_map-append g (f a) (flat_map f list) ∙ ap (λ t. flat_map g (f a) ++ t) (flat_map-flat_map f g list)
-
-map-append : {A B : Type 0} (f : A → B) (first second : List A) → map f (first ++ second) ≡ map f first ++ map f second
-map-append f [] second = refl
-map-append f (a ∷ first) second = ap (λ t. f a ∷ t) (map-append f first second)
-
 map-flat_map : {A B C : Type 0} (f : B → C) (g : A → List B) (list : List A) → map f (flat_map g list) ≡ flat_map (λ a. map f (g a)) list
 map-flat_map f g [] = refl
 map-flat_map f g (a ∷ list) = map-append f (g a) (flat_map g list) ∙ ap (λ t. map f (g a) ++ t) (map-flat_map f g list)
@@ -95,15 +86,11 @@ pub given-replaced : {A : Type 0} (gives : Item → List A) (value : ValueId) (n
 given-replaced gives value news nodes = ap (flat_map gives) (items-replaced value news nodes) ∙ flat_map-flat_map (item_in_place value news) gives (items nodes)
 
 -- an instruction that defines the value has it as its target
-passes : (test : Bool) → (test || false) ≡ true → test ≡ true
-passes true h = refl
-passes false h = h
-
 same_number : (a b : ValueId) → a.0 ≡ b.0 → a ≡ b
 same_number a b e = let id : ℕ → ValueId = λ n. record { 0 = n } in ap id e
 
 same_value : (value id : ValueId) → (nat_eq id.0 value.0 || false) ≡ true → id ≡ value
-same_value value id h = same_number id value (eqb-true id.0 value.0 (passes (nat_eq id.0 value.0) h))
+same_value value id h = same_number id value (eqb-true id.0 value.0 (sym (or_false (nat_eq id.0 value.0)) ∙ h))
 
 is_target-Some : (value : ValueId) (found : Option ValueId) → list_any (λ id. nat_eq id.0 value.0) (option_to_list found) ≡ true → found ≡ Some value
 is_target-Some value None h = absurd (true≢false (sym h))
@@ -167,40 +154,27 @@ ifs_defined-replaced value new nodes = given-kept (λ item. map (λ id. id.0) (i
 pub loops_defined-replaced : (value : ValueId) (new : Instr) (nodes : Nodes) → loops_defined (replaced value (new ∷ []) nodes) ≡ loops_defined nodes
 loops_defined-replaced value new nodes = given-kept (λ item. map (λ id. id.0) (loops_of item)) value new (λ _ _. refl) nodes
 
--- what holds of each part of two lists
-AllByRecursion-append : {A : Type 0} (P : A → Type 0) (first second : List A) → AllByRecursion P first → AllByRecursion P second → AllByRecursion P (first ++ second)
-AllByRecursion-append P [] second f s = s
-AllByRecursion-append P (a ∷ first) second f s = (f.0, AllByRecursion-append P first second f.1 s)
-
-AllByRecursion-front : {A : Type 0} (P : A → Type 0) (first second : List A) → AllByRecursion P (first ++ second) → AllByRecursion P first
-AllByRecursion-front P [] second h = tt
-AllByRecursion-front P (a ∷ first) second h = (h.0, AllByRecursion-front P first second h.1)
-
-AllByRecursion-back : {A : Type 0} (P : A → Type 0) (first second : List A) → AllByRecursion P (first ++ second) → AllByRecursion P second
-AllByRecursion-back P [] second h = h
-AllByRecursion-back P (a ∷ first) second h = AllByRecursion-back P first second h.1
-
 -- what holds of all that is given, and of what the new instruction gives, holds of all that is given then
 pub all_given-replaced : {A : Type 0} (P : A → Type 0) (gives : Item → List A) (value : ValueId) (new : Instr) → AllByRecursion P (gives (InstrItem new)) → (nodes : Nodes) → AllByRecursion P (flat_map gives (items nodes)) → AllByRecursion P (flat_map gives (items (replaced value (new ∷ []) nodes)))
 all_given-replaced {A} P gives value new here nodes h = subst (AllByRecursion P) (sym (given-replaced gives value (new ∷ []) nodes)) (along (items nodes) h) where
   instr_in_place : (old : Instr) (found : Bool) → AllByRecursion P (gives (InstrItem old)) → AllByRecursion P (flat_map gives (map InstrItem (cond found (new ∷ []) (old ∷ []))))
-  instr_in_place old true g = AllByRecursion-append P (gives (InstrItem new)) [] here tt
-  instr_in_place old false g = AllByRecursion-append P (gives (InstrItem old)) [] g tt
+  instr_in_place old true g = all_append P (gives (InstrItem new)) [] here tt
+  instr_in_place old false g = all_append P (gives (InstrItem old)) [] g tt
 
   in_place : (item : Item) → AllByRecursion P (gives item) → AllByRecursion P (flat_map gives (item_in_place value (new ∷ []) item))
-  in_place (BlockHead id) g = AllByRecursion-append P (gives (BlockHead id)) [] g tt
-  in_place (PhiItem phi) g = AllByRecursion-append P (gives (PhiItem phi)) [] g tt
+  in_place (BlockHead id) g = all_append P (gives (BlockHead id)) [] g tt
+  in_place (PhiItem phi) g = all_append P (gives (PhiItem phi)) [] g tt
   in_place (InstrItem old) g = instr_in_place old (is_target value old) g
-  in_place (JumpItem jump) g = AllByRecursion-append P (gives (JumpItem jump)) [] g tt
-  in_place (IfHead id condition) g = AllByRecursion-append P (gives (IfHead id condition)) [] g tt
-  in_place (LoopHead id) g = AllByRecursion-append P (gives (LoopHead id)) [] g tt
+  in_place (JumpItem jump) g = all_append P (gives (JumpItem jump)) [] g tt
+  in_place (IfHead id condition) g = all_append P (gives (IfHead id condition)) [] g tt
+  in_place (LoopHead id) g = all_append P (gives (LoopHead id)) [] g tt
 
   along : (list : List Item) → AllByRecursion P (flat_map gives list) → AllByRecursion P (flat_map (λ item. flat_map gives (item_in_place value (new ∷ []) item)) list)
   along [] g = tt
   along (item ∷ list) g =
-      AllByRecursion-append P (flat_map gives (item_in_place value (new ∷ []) item)) (flat_map (λ i. flat_map gives (item_in_place value (new ∷ []) i)) list)
-      (in_place item (AllByRecursion-front P (gives item) (flat_map gives list) g))
-      (along list (AllByRecursion-back P (gives item) (flat_map gives list) g))
+      all_append P (flat_map gives (item_in_place value (new ∷ []) item)) (flat_map (λ i. flat_map gives (item_in_place value (new ∷ []) i)) list)
+      (in_place item (all_front P (gives item) (flat_map gives list) g))
+      (along list (all_back P (gives item) (flat_map gives list) g))
 
 -- a shader stays shaped where an instruction that reads what is defined takes the place of one that defines the same value
 pub IsShaped-replaced : (s : Shader) (value : ValueId) (new : Instr) → target new ≡ Some value → AllByRecursion (IsOneOf (values_defined s.body)) (map (λ id. id.0) (reads new)) → IsShapedInstr new → IsShaped s → IsShaped (record s { body = replaced value (new ∷ []) s.body })
@@ -248,7 +222,7 @@ unmet value (BlockHead id ∷ list) h = unmet value list h
 unmet value (PhiItem phi ∷ list) h = unmet value list h.1
 unmet value (InstrItem instr ∷ list) h =
     count_by-no (is_target value) instr (flat_map instr_of list) (unmet_target value (target instr) (flat_map numbers list) h)
-    ∙ unmet value list (AllByRecursion-back (λ n. nat_eq value.0 n ≡ false) (map (λ id. id.0) (option_to_list (target instr))) (flat_map numbers list) h)
+    ∙ unmet value list (all_back (λ n. nat_eq value.0 n ≡ false) (map (λ id. id.0) (option_to_list (target instr))) (flat_map numbers list) h)
 unmet value (JumpItem jump ∷ list) h = unmet value list h
 unmet value (IfHead id condition ∷ list) h = unmet value list h
 unmet value (LoopHead id ∷ list) h = unmet value list h
@@ -366,9 +340,6 @@ instr_defining-replaced_other value other new is differ nodes =
 pub phis-replaced : (value : ValueId) (new : Instr) (nodes : Nodes) → phis (replaced value (new ∷ []) nodes) ≡ phis nodes
 phis-replaced value new nodes = given-kept phi_of value new (λ _ _. refl) nodes
 
-some_same : {A : Type 0} (a b : A) → Some a ≡ Some b → a ≡ b
-some_same a b e = ap (λ found. unwrap_or found a) e
-
 -- a sum over the instructions changes by what the two count
 exchanged : (whole first rest changed new old : ℕ) → whole ≡ first + rest → rest + new ≡ changed + old → whole + new ≡ first + changed + old
 exchanged whole first rest changed new old split h = omega arith
@@ -386,7 +357,7 @@ sum_new f value new old (instr ∷ list) few found = by_test (is_target value in
       let some : 1 + count_by (is_target value) list ≤ 1 = subst (λ (n : ℕ). n ≤ 1) (count_by-yes (is_target value) instr list h) few in
       let none : count_by (is_target value) list ≡ 0 = omega arith in
       let placed : flat_map (in_place_of value (new ∷ [])) (instr ∷ list) ≡ new ∷ list = in_place-yes value (new ∷ []) instr list h ∙ ap (λ t. new ∷ t) (unchanged value (new ∷ []) list none) in
-      let same : instr ≡ old = some_same instr old (sym (find-yes (is_target value) instr list h) ∙ found) in
+      let same : instr ≡ old = same_Some instr old (sym (find-yes (is_target value) instr list h) ∙ found) in
       swapped (sum_by f (instr ∷ list)) (sum_by f (flat_map (in_place_of value (new ∷ [])) (instr ∷ list))) (f instr) (sum_by f list) (f new) (f old) (sum_by-cons f instr list) (ap (sum_by f) placed ∙ sum_by-cons f new list) (ap f same)
   by_test false h rest =
       exchanged (sum_by f (instr ∷ list)) (f instr) (sum_by f list) (sum_by f (flat_map (in_place_of value (new ∷ [])) list)) (f new) (f old) (sum_by-cons f instr list)

@@ -1,19 +1,22 @@
 -- What is known of an instruction or phi that is found in a shaped shader.
 use Rattle.std.specs.Prelude.{◌≡◌, refl, ◌<◌, ◌≤◌, ◌^◌, ℕ, List, [], ◌∷◌, Option, Some, None, Bool, true, false, ◌||◌, cond, IsTrue, nat_eq}
-use Rattle.std.proofs.Common.{sym, subst, arith}
+use Rattle.std.proofs.Common.{sym, ◌∙◌, ap, subst, arith}
 use Rattle.std.proofs.lemmas.Option.{none-some, same_Some}
 use Rattle.std.proofs.lemmas.Bool.{eqb-true, true≢false}
 use Rattle.std.specs.List.{AllByRecursion, find, flat_map}
 use Rattle.std.specs.Option.{option_and_then, option_map, option_map_or, option_or}
+use Rattle.list_laws.specs.OptionLaws.{between}
+use Rattle.nir_ops.specs.declared.op.Op.{Op}
 use Rattle.nir_ops.specs.declared.width.Width.TheVariants.{W1}
 use Rattle.nir_ops.specs.Width.{width_bits}
 use Rattle.nir_ir.specs.declared.ids.ValueId.{ValueId}
 use Rattle.nir_ir.specs.declared.kind.Kind.{Kind}
 use Rattle.nir_ir.specs.declared.instr.Instr.{Instr}
 use Rattle.nir_ir.specs.declared.instr.Instr.TheVariants.{Alu, Const, Undef, Input, Output, LoadBuf, StoreBuf}
+use Rattle.nir_ir.specs.declared.instr.Src.{Src}
 use Rattle.nir_ir.specs.declared.node.Phi.{Phi}
 use Rattle.nir_ir.specs.Items.{Item, BlockHead, PhiItem, InstrItem, JumpItem, IfHead, LoopHead, items}
-use Rattle.nir_ir.specs.Definitions.{const_at, const_of, instr_defining, instr_of, is_phi_of, is_target, kind_at, kind_of_target, phi_defining, phi_of, width_at}
+use Rattle.nir_ir.specs.Definitions.{alu_of, const_at, const_of, instr_defining, instr_of, is_phi_of, is_target, kind_at, kind_of_target, phi_defining, phi_of, width_at}
 use Rattle.nir_ir.specs.Shader.{Shader}
 use Rattle.nir_ir.specs.Shaped.{IsCount, IsShaped, IsShapedInstr, IsShapedItem, IsShapedPhi}
 
@@ -39,22 +42,49 @@ all_instrs (LoopHead id ∷ list) all = all_instrs list all.1
 pub found_shaped : (s : Shader) → IsShaped s → (value : ValueId) (instr : Instr) → instr_defining value s.body ≡ Some instr → IsShapedInstr instr
 found_shaped s shaped value instr found = found_all IsShapedInstr (is_target value) (flat_map instr_of (items s.body)) instr (all_instrs (items s.body) shaped.items) found
 
+-- what an instruction with an opcode is, and what a const is
+pub record AluOf (instr : Instr) (alu : Op × List Src) : Type 0 where
+  pub id : ValueId
+  pub kind : Kind
+  pub is : instr ≡ Alu id alu.0 kind alu.1
+
+pub alu_is : (instr : Instr) (alu : Op × List Src) → alu_of instr ≡ Some alu → AluOf instr alu
+alu_is (Alu id op kind srcs) alu h =
+    record { id = id; kind = kind; is = ap (λ (pair : Op × List Src). Alu id pair.0 kind pair.1) (same_Some (op, srcs) alu h) }
+alu_is (Const id kind comps) alu h = absurd (none-some alu h)
+alu_is (Undef id kind) alu h = absurd (none-some alu h)
+alu_is (Input id kind slot) alu h = absurd (none-some alu h)
+alu_is (Output effect slot src) alu h = absurd (none-some alu h)
+alu_is (LoadBuf id kind buffer offset) alu h = absurd (none-some alu h)
+alu_is (StoreBuf effect buffer offset src) alu h = absurd (none-some alu h)
+
+pub record ConstOf (instr : Instr) (comps : List ℕ) : Type 0 where
+  pub id : ValueId
+  pub kind : Kind
+  pub is : instr ≡ Const id kind comps
+
+pub const_is : (instr : Instr) (comps : List ℕ) → const_of instr ≡ Some comps → ConstOf instr comps
+const_is (Alu id op kind srcs) comps h = absurd (none-some comps h)
+const_is (Const id kind list) comps h = record { id = id; kind = kind; is = ap (Const id kind) (same_Some list comps h) }
+const_is (Undef id kind) comps h = absurd (none-some comps h)
+const_is (Input id kind slot) comps h = absurd (none-some comps h)
+const_is (Output effect slot src) comps h = absurd (none-some comps h)
+const_is (LoadBuf id kind buffer offset) comps h = absurd (none-some comps h)
+const_is (StoreBuf effect buffer offset src) comps h = absurd (none-some comps h)
+
 -- the components of a const are words of its bit size
-const_found : (s : Shader) → IsShaped s → (value : ValueId) (comps : List ℕ) (others : Option Kind) (found : Option Instr)
-    → instr_defining value s.body ≡ found → option_and_then const_of found ≡ Some comps
-    → AllByRecursion (λ comp. comp < 2 ^ width_bits (option_map_or (λ kind. kind.width) (option_or (option_and_then kind_of_target found) others) W1)) comps
-const_found s shaped value comps others None is h = absurd (none-some comps h)
-const_found s shaped value comps others (Some (Alu id op kind srcs)) is h = absurd (none-some comps h)
-const_found s shaped value comps others (Some (Const id kind list)) is h =
-    subst (AllByRecursion (λ comp. comp < 2 ^ width_bits kind.width)) (same_Some list comps h) (found_shaped s shaped value (Const id kind list) is).1.words
-const_found s shaped value comps others (Some (Undef id kind)) is h = absurd (none-some comps h)
-const_found s shaped value comps others (Some (Input id kind slot)) is h = absurd (none-some comps h)
-const_found s shaped value comps others (Some (Output effect slot src)) is h = absurd (none-some comps h)
-const_found s shaped value comps others (Some (LoadBuf id kind buffer offset)) is h = absurd (none-some comps h)
-const_found s shaped value comps others (Some (StoreBuf effect buffer offset src)) is h = absurd (none-some comps h)
+const_found : (s : Shader) → IsShaped s → (value : ValueId) (comps : List ℕ) (others : Option Kind)
+    → option_and_then const_of (instr_defining value s.body) ≡ Some comps
+    → AllByRecursion (λ comp. comp < 2 ^ width_bits (option_map_or (λ kind. kind.width) (option_or (option_and_then kind_of_target (instr_defining value s.body)) others) W1)) comps
+const_found s shaped value comps others h =
+    let found = between (instr_defining value s.body) const_of comps h in
+    let const = const_is found.middle comps found.behind in
+    let is : instr_defining value s.body ≡ Some (Const const.id const.kind comps) = found.before ∙ ap Some const.is in
+    subst (λ (instr : Option Instr). AllByRecursion (λ comp. comp < 2 ^ width_bits (option_map_or (λ kind. kind.width) (option_or (option_and_then kind_of_target instr) others) W1)) comps) (sym is)
+    (found_shaped s shaped value (Const const.id const.kind comps) is).1.words
 
 pub const_words : (s : Shader) → IsShaped s → (value : ValueId) (comps : List ℕ) → const_at s.body value ≡ Some comps → AllByRecursion (λ comp. comp < 2 ^ width_bits (width_at s.body value)) comps
-const_words s shaped value comps h = const_found s shaped value comps (option_map (λ phi. phi.kind) (phi_defining value s.body)) (instr_defining value s.body) refl h
+const_words s shaped value comps h = const_found s shaped value comps (option_map (λ phi. phi.kind) (phi_defining value s.body)) h
 
 -- the phis of shaped items are shaped
 all_phis : (list : List Item) → AllByRecursion IsShapedItem list → AllByRecursion IsShapedPhi (flat_map phi_of list)

@@ -1,6 +1,6 @@
 -- The items of a shader in text order: each block's head, phis, instructions and jump, and each head of an if or a loop.
-use Rattle.std.specs.Prelude.{ℕ, List, [], ◌∷◌, ◌++◌, map, Option, Some, None}
-use Rattle.std.specs.Option.{option_to_list}
+use Rattle.std.specs.Prelude.{ℕ, List, [], ◌∷◌, ◌++◌, map, Option}
+use Rattle.std.specs.Option.{option_map, option_to_list}
 use Rattle.std.specs.List.{flat_map}
 use Rattle.nir_ir.specs.declared.ids.BlockId.{BlockId}
 use Rattle.nir_ir.specs.declared.ids.EffectId.{EffectId}
@@ -8,10 +8,10 @@ use Rattle.nir_ir.specs.declared.ids.IfId.{IfId}
 use Rattle.nir_ir.specs.declared.ids.LoopId.{LoopId}
 use Rattle.nir_ir.specs.declared.ids.ValueId.{ValueId}
 use Rattle.nir_ir.specs.declared.instr.Instr.{Instr}
-use Rattle.nir_ir.specs.declared.instr.Instr.TheVariants.{Alu, Const, Undef, Input, Output, LoadBuf, StoreBuf}
 use Rattle.nir_ir.specs.declared.node.Block.{Block}
 use Rattle.nir_ir.specs.declared.node.Jump.{Jump}
 use Rattle.nir_ir.specs.declared.node.Phi.{Phi}
+use Rattle.nir_ir.specs.Parts.{parts}
 use Rattle.nir_ir.specs.Nodes.{Nodes, Nil, BlockThen, IfThen, LoopThen}
 
 pub data Item : Type 0 where
@@ -34,33 +34,15 @@ items (LoopThen id body rest) = LoopHead id ∷ items body ++ items rest
 
 -- the value that an instruction defines
 abbrev pub target : Instr → Option ValueId
-target (Alu value op kind srcs) = Some value
-target (Const value kind comps) = Some value
-target (Undef value kind) = Some value
-target (Input value kind slot) = Some value
-target (Output effect slot src) = None
-target (LoadBuf value kind buffer offset) = Some value
-target (StoreBuf effect buffer offset src) = None
+target instr = option_map (λ defined. defined.0) (parts instr).defines
 
 -- the output or store that an instruction is
 abbrev pub effect_of : Instr → Option EffectId
-effect_of (Alu value op kind srcs) = None
-effect_of (Const value kind comps) = None
-effect_of (Undef value kind) = None
-effect_of (Input value kind slot) = None
-effect_of (Output effect slot src) = Some effect
-effect_of (LoadBuf value kind buffer offset) = None
-effect_of (StoreBuf effect buffer offset src) = Some effect
+effect_of instr = (parts instr).effect
 
 -- the values that an instruction uses, source by source
 abbrev pub reads : Instr → List ValueId
-reads (Alu value op kind srcs) = map (λ src. src.value) srcs
-reads (Const value kind comps) = []
-reads (Undef value kind) = []
-reads (Input value kind slot) = []
-reads (Output effect slot src) = src ∷ []
-reads (LoadBuf value kind buffer offset) = offset ∷ []
-reads (StoreBuf effect buffer offset src) = offset ∷ src ∷ []
+reads instr = (parts instr).reads
 
 -- the value that an item defines
 abbrev pub defines : Item → List ValueId

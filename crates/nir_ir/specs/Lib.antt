@@ -4,6 +4,7 @@ pub mod EditsShaped
 pub mod Found
 pub mod Items
 pub mod Nodes
+pub mod Parts
 pub mod Shaped
 pub mod Shader
 pub mod Splits

@@ -7,24 +7,36 @@ ghost use Rattle.nir_ir.specs.Definitions.{phi_defining, instr_defining, is_phi_
 
 use crate::ids::ValueId;
 use crate::instr::Instr;
+use crate::kind::Kind;
 use crate::node::{Node, Phi};
 use crate::shader::Shader;
 
 impl Instr {
     ghost use Rattle.nir_ir.specs.Items.{target};
+    ghost use Rattle.nir_ir.specs.Parts.{parts};
+
+    /// The value that the instruction defines, and its kind; None for an output and a store.
+    pub fn defines(&self) -> Option<(ValueId, Kind)>
+        ensures { result ≡ (parts self.now).defines }
+    {
+        match self {
+            Instr::Alu { value, kind, .. } => Some((*value, *kind)),
+            Instr::Const { value, kind, .. } => Some((*value, *kind)),
+            Instr::Undef { value, kind } => Some((*value, *kind)),
+            Instr::Input { value, kind, .. } => Some((*value, *kind)),
+            Instr::Output { .. } => None,
+            Instr::LoadBuf { value, kind, .. } => Some((*value, *kind)),
+            Instr::StoreBuf { .. } => None,
+        }
+    }
 
     /// The value that the instruction defines; None for an output and a store.
     pub fn target(&self) -> Option<ValueId>
         ensures { result ≡ target self.now }
     {
-        match self {
-            Instr::Alu { value, .. } => Some(*value),
-            Instr::Const { value, .. } => Some(*value),
-            Instr::Undef { value, .. } => Some(*value),
-            Instr::Input { value, .. } => Some(*value),
-            Instr::Output { .. } => None,
-            Instr::LoadBuf { value, .. } => Some(*value),
-            Instr::StoreBuf { .. } => None,
+        match self.defines() {
+            Some((value, _kind)) => Some(value),
+            None => None,
         }
     }
 }

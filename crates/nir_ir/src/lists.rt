@@ -1,6 +1,7 @@
 //! The short lists of an instruction, kept in place. Contracts see each as the list of its items.
 
-ghost use Rattle.std.specs.Prelude.{◌≡◌, [], ◌∷◌, ◌++◌, ◌<◌, ◌≤◌, length, OnOk, OnErr};
+ghost use Rattle.std.specs.Prelude.{◌≡◌, [], ◌∷◌, ◌++◌, ◌<◌, ◌≤◌, length, slice_get, OnOk, OnErr, OnSome};
+ghost use Rattle.std.specs.Option.{option_copied};
 
 use crate::instr::Src;
 use arrayvec::ArrayVec;
@@ -118,6 +119,14 @@ impl Srcs {
         self.items.len()
     }
 
+    /// The source at a place, None past the end.
+    pub fn get(&self, at: usize) -> Option<&Src>
+        ensures value { option_copied result ≡ slice_get self.now at }
+        ensures within { OnSome result (at < length self.now) }
+    {
+        self.items.as_slice().get(at)
+    }
+
     /// Adds a source. After `OutOfMemory` the list is as it was.
     pub fn push(&mut self, src: Src) -> Result<(), OutOfMemory>
         ensures ok { OnOk result (self.new ≡ self.old ++ src ∷ []) }
@@ -177,6 +186,14 @@ impl Comps {
         ensures { result ≡ length self.now }
     {
         self.items.len()
+    }
+
+    /// The component at a place, None past the end.
+    pub fn get(&self, at: usize) -> Option<&u64>
+        ensures value { option_copied result ≡ slice_get self.now at }
+        ensures within { OnSome result (at < length self.now) }
+    {
+        self.items.as_slice().get(at)
     }
 
     /// Adds a component. After `OutOfMemory` the list is as it was.

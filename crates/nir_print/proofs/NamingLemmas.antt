@@ -1,15 +1,17 @@
 -- A walk through all items of a text names what the text defines.
-use Rattle.std.proofs.Common.{◌≡◌, ℕ, List, [], ◌∷◌, ◌++◌, map, fold, ap, sym, ◌∙◌, append_assoc}
+use Rattle.std.proofs.Common.{◌≡◌, ℕ, List, [], ◌∷◌, ◌++◌, map, fold, ap, sym, ◌∙◌, append_assoc, Option, Some, None}
 use Rattle.std.specs.List.{flat_map}
+use Rattle.std.specs.Option.{option_map, option_map_or, option_to_list}
 use Rattle.std.proofs.lemmas.List.{append-nil}
+use Rattle.nir_ir.specs.declared.ids.ValueId.{ValueId}
 use Rattle.nir_ir.specs.declared.instr.Instr.{Instr}
-use Rattle.nir_ir.specs.declared.instr.Instr.TheVariants.{Alu, Const, Undef, Input, Output, LoadBuf, StoreBuf}
 use Rattle.nir_ir.specs.declared.kind.Kind.{Kind}
 use Rattle.nir_ir.specs.declared.node.Node.{Node}
 use Rattle.nir_ir.specs.Nodes.{Nodes, nodes_of}
 use Rattle.nir_ir.specs.Items.{Item, BlockHead, PhiItem, InstrItem, JumpItem, IfHead, LoopHead, items, defines, blocks_of}
 use Rattle.nir_ir.specs.Definitions.{kinds_of}
-use Rattle.nir_print.specs.Naming.{Naming, naming_of, with_item, with_instr}
+use Rattle.nir_ir.specs.Parts.{parts}
+use Rattle.nir_print.specs.Naming.{Naming, naming_of, with_item, with_instr, with_value}
 
 -- the numbers of the values, and of the blocks, that an item defines
 abbrev values_of : Item → List ℕ
@@ -30,14 +32,14 @@ longer-nil n =
 longer-value : (n : Naming) (v : ℕ) (kind : Kind) → record { values = n.values ++ v ∷ []; kinds = n.kinds ++ kind ∷ []; blocks = n.blocks } ≡ longer n (v ∷ []) (kind ∷ []) []
 longer-value n v kind = ap (λ blocks. record { values = n.values ++ v ∷ []; kinds = n.kinds ++ kind ∷ []; blocks = blocks }) (sym (append-nil n.blocks))
 
+defined-longer : (n : Naming) (found : Option (ValueId × Kind))
+    → option_map_or (λ defined. with_value n defined.0 defined.1) found n
+    ≡ longer n (map (λ id. id.0) (option_to_list (option_map (λ defined. defined.0) found))) (option_to_list (option_map (λ defined. defined.1) found)) []
+defined-longer n None = longer-nil n
+defined-longer n (Some defined) = longer-value n defined.0.0 defined.1
+
 with_instr-longer : (n : Naming) (instr : Instr) → with_instr n instr ≡ longer n (values_of (InstrItem instr)) (kinds_of (InstrItem instr)) []
-with_instr-longer n (Alu value op kind srcs) = longer-value n value.0 kind
-with_instr-longer n (Const value kind comps) = longer-value n value.0 kind
-with_instr-longer n (Undef value kind) = longer-value n value.0 kind
-with_instr-longer n (Input value kind slot) = longer-value n value.0 kind
-with_instr-longer n (Output effect slot src) = longer-nil n
-with_instr-longer n (LoadBuf value kind buffer offset) = longer-value n value.0 kind
-with_instr-longer n (StoreBuf effect buffer offset src) = longer-nil n
+with_instr-longer n instr = defined-longer n (parts instr).defines
 
 with_item-longer : (n : Naming) (item : Item) → with_item n item ≡ longer n (values_of item) (kinds_of item) (block_numbers_of item)
 with_item-longer n (BlockHead id) =

@@ -18,7 +18,7 @@ use Rattle.nir_ir.specs.Shaped.{IsCount, IsSwizzle}
 use Rattle.nir_lex.specs.Classes.{is_blank, is_in_word, is_punctuation, is_word, starts_word}
 use Rattle.nir_spelling.specs.Lexemes.{Part, ◌▹◌, IsMark, IsWord, IsIndex, EachBehindComma, Separated}
 use Rattle.nir_spelling.specs.Spelling.{IsKind, kind_word, IsComponent, SpellsComponent, swizzle_word}
-use Rattle.nir_print.specs.EachOf.{all_append}
+use Rattle.list_laws.specs.AllLaws.{all_append}
 use Rattle.nir_print.proofs.Lexing.{Lexing, Prints, Any, Stop, blank_prints, word_prints, mark_prints, number_prints, nothing_prints, followed, ◌⨾◌, is_word-cons, decimal_in_word}
 
 -- ---- words

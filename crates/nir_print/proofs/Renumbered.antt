@@ -16,7 +16,7 @@ use Rattle.nir_spelling.specs.Resolving.{AreInOrder, Resolves}
 use Rattle.nir_print.specs.Naming.{place}
 use Rattle.nir_print.specs.Renumber.{Numbers, numbers_of, renumber}
 use Rattle.nir_print.specs.RenumberedItems.{given-new_nodes, values_renamed, kinds_kept, effects_renamed, blocks_renamed, ifs_renamed, loops_renamed, places_in_order}
-use Rattle.nir_print.specs.EachOf.{map_same}
+use Rattle.list_laws.specs.MapLaws.{map-same}
 use Rattle.nir_print.specs.RoundTrip.{printed_names, value_name, block_word, HasMachineNumbers}
 
 -- renamed numbers are in order
@@ -52,7 +52,7 @@ resolves shader shaped machine =
     let effects = given-new_nodes (λ item. map (λ id. id.0) (effects_of item)) (λ item. map (λ id. id.0) (effects_of item)) (place numbers.effects) numbers (effects_renamed numbers) shader.body in
     let ifs = given-new_nodes (λ item. map (λ id. id.0) (ifs_of item)) (λ item. map (λ id. id.0) (ifs_of item)) (place numbers.ifs) numbers (ifs_renamed numbers) shader.body in
     let loops = given-new_nodes (λ item. map (λ id. id.0) (loops_of item)) (λ item. map (λ id. id.0) (loops_of item)) (place numbers.loops) numbers (loops_renamed numbers) shader.body in
-    let kinds = given-new_nodes kinds_of kinds_of (λ kind. kind) numbers (kinds_kept numbers) shader.body ∙ map_same (kinds_defined shader.body) in
+    let kinds = given-new_nodes kinds_of kinds_of (λ kind. kind) numbers (kinds_kept numbers) shader.body ∙ map-same (kinds_defined shader.body) in
     let value_count : length (values_defined shader.body) ≡ length (values_defined (renumber shader).body) = sym (ap length values ∙ length-map (values_defined shader.body) (place numbers.naming.values)) in
     let block_count : length (blocks_defined shader.body) ≡ length (blocks_defined (renumber shader).body) = sym (ap length blocks ∙ length-map (blocks_defined shader.body) (place numbers.naming.blocks)) in
     record {

@@ -18,7 +18,8 @@ use Rattle.nir_print.specs.Naming.{naming_of, place}
 use Rattle.nir_print.specs.Renumber.{renumber}
 use Rattle.nir_print.specs.Text.{text_of}
 use Rattle.nir_print.specs.RoundTrip.{addresses_of, addresses, value_name, block_word, printed_names, HasMachineNumbers, TextDenotes, ReadingGivesRenumbered}
-use Rattle.nir_print.specs.EachOf.{given_by_each, given_in_two}
+use Rattle.list_laws.specs.AllLaws.{given_by_each}
+use Rattle.list_laws.specs.MapLaws.{flat_map-flat_map}
 use Rattle.nir_print.proofs.WordLemmas.{each_word}
 use Rattle.nir_print.proofs.Spelled.{AreNames, IsPrintable, text_spells}
 use Rattle.nir_print.proofs.Renumbered.{resolves}
@@ -95,7 +96,7 @@ items_printable shader shaped machine =
     (given_by_each is_block (λ item. map (λ id. id.0) (blocks_of item)) list (each_one_of (blocks_defined shader.body)))
     (given_by_each is_block (λ item. map (λ id. id.0) (names_blocks item)) list shaped.names)
     shaped.items
-    (given_by_each held (λ item. flat_map addresses_of (instr_of item)) list (subst (AllByRecursion held) (given_in_two instr_of addresses_of list) (each_word (addresses shader.body) machine.addresses)))
+    (given_by_each held (λ item. flat_map addresses_of (instr_of item)) list (subst (AllByRecursion held) (flat_map-flat_map instr_of addresses_of list) (each_word (addresses shader.body) machine.addresses)))
 
 -- ---- the law
 

@@ -35,7 +35,8 @@ use Rattle.nir_print.specs.Naming.{Naming, value_place, block_place, kind_of, in
 use Rattle.nir_print.specs.Renumber.{Numbers, new_value, new_block, new_src, new_instr, new_phi_source, new_phi, new_block_node, new_nodes, numbers_of, renumber}
 use Rattle.nir_print.specs.Text.{value_text, block_name, is_whole, src_text, defining, instr_text, phi_source_text, phi_text, jump_text, line, deeper, block_text, nodes_text, kinds_text, text_of}
 use Rattle.nir_print.specs.RoundTrip.{addresses_of, value_name, block_word}
-use Rattle.nir_print.specs.EachOf.{all_front, all_back, all_of_map, all_both, all_filter, all_flat_map, map_same}
+use Rattle.list_laws.specs.AllLaws.{all_front, all_back, all_of_map, all_both, all_filter, all_flat_map}
+use Rattle.list_laws.specs.MapLaws.{map-same}
 use Rattle.nir_print.proofs.Lexing.{Lexing, Gives, Prints, Any, Stop, end_gives, word_prints, name_prints, nothing_prints, followed, ◌⨾◌, stopped, weaker, implied, each_prints, is_word-block}
 use Rattle.nir_print.proofs.Parts.{is_word-op, is_word-swizzle, space, line_feed, comma, dot, colon, equals, at_sign, open_round, close_round, open_square, close_square, open_brace, close_brace, this_word, kind_prints, index_prints, component_prints, listed_prints}
 
@@ -117,13 +118,13 @@ module _ (lexing : Lexing) where
     srcs_print : (srcs : List Src) → AllByRecursion (IsOneOf numbers.naming.values) (map (λ id. id.0) (map (λ src. src.value) srcs)) → AllByRecursion (λ src. IsSwizzle src.swizzle) srcs
         → Prints Stop (listed (map (src_text numbers.naming) srcs)) (Separated (SpellsSrc names) (map (new_src numbers) srcs))
     srcs_print srcs uses swizzles =
-        let values = all_of_map (λ id. IsOneOf numbers.naming.values id.0) (λ src. src.value) srcs (all_of_map (IsOneOf numbers.naming.values) (λ id. id.0) (map (λ src. src.value) srcs) uses) in
+        let values = all_of_map (λ src. src.value) (λ id. IsOneOf numbers.naming.values id.0) srcs (all_of_map (λ id. id.0) (IsOneOf numbers.naming.values) (map (λ src. src.value) srcs) uses) in
         listed_prints lexing IsSource (src_text numbers.naming) (new_src numbers) (SpellsSrc names) src_prints srcs (all_both (λ src. IsOneOf numbers.naming.values src.value.0) (λ src. IsSwizzle src.swizzle) srcs values swizzles)
 
     comps_print : (kind : Kind) (comps : List ℕ) → AllByRecursion (λ comp. comp < 2 ^ width_bits kind.width) comps → Prints Stop (listed (map decimal comps)) (Separated (SpellsComponent kind) comps)
     comps_print kind comps words =
         let all = listed_prints lexing (λ comp. comp < 2 ^ width_bits kind.width) decimal (λ comp. comp) (SpellsComponent kind) (component_prints lexing kind) comps words in
-        subst (λ l. Prints Stop (listed (map decimal comps)) (Separated (SpellsComponent kind) l)) (map_same comps) all
+        subst (λ l. Prints Stop (listed (map decimal comps)) (Separated (SpellsComponent kind) l)) (map-same comps) all
 
     -- the words of the grammar
     const_word : is_word (codes "const") ≡ true
@@ -193,8 +194,8 @@ module _ (lexing : Lexing) where
     sources_print : (sources : List PhiSource) → AllByRecursion (IsOneOf numbers.naming.values) (map (λ id. id.0) (map (λ source. source.value) sources)) → AllByRecursion (IsOneOf numbers.naming.blocks) (map (λ id. id.0) (map (λ source. source.from) sources))
         → Prints Stop (listed (map (phi_source_text numbers.naming) (in_block_order numbers.naming sources))) (Separated (SpellsPhiSource names) (map (new_phi_source numbers) (in_block_order numbers.naming sources)))
     sources_print sources uses blocks =
-        let values = all_of_map (λ id. IsOneOf numbers.naming.values id.0) (λ source. source.value) sources (all_of_map (IsOneOf numbers.naming.values) (λ id. id.0) (map (λ source. source.value) sources) uses) in
-        let from = all_of_map (λ id. IsOneOf numbers.naming.blocks id.0) (λ source. source.from) sources (all_of_map (IsOneOf numbers.naming.blocks) (λ id. id.0) (map (λ source. source.from) sources) blocks) in
+        let values = all_of_map (λ source. source.value) (λ id. IsOneOf numbers.naming.values id.0) sources (all_of_map (λ id. id.0) (IsOneOf numbers.naming.values) (map (λ source. source.value) sources) uses) in
+        let from = all_of_map (λ source. source.from) (λ id. IsOneOf numbers.naming.blocks id.0) sources (all_of_map (λ id. id.0) (IsOneOf numbers.naming.blocks) (map (λ source. source.from) sources) blocks) in
         let named = all_both (λ source. IsOneOf numbers.naming.values source.value.0) (λ source. IsOneOf numbers.naming.blocks source.from.0) sources values from in
         let ordered = all_flat_map IsNamedSource (λ block. filter (λ source. nat_eq (block_place numbers.naming source.from) block) sources) (λ block. all_filter IsNamedSource (λ source. nat_eq (block_place numbers.naming source.from) block) sources named) (range_with_len 0 (length numbers.naming.blocks + 1)) in
         listed_prints lexing IsNamedSource (phi_source_text numbers.naming) (new_phi_source numbers) (SpellsPhiSource names) phi_source_prints (in_block_order numbers.naming sources) ordered
@@ -229,13 +230,13 @@ module _ (lexing : Lexing) where
         → Prints Any (flat_map (λ phi. line indent (phi_text numbers.naming phi)) phis) (Each (SpellsPhi names) (map (new_phi numbers) phis))
     phis_print {indent} passes phis all =
         each_prints (λ phi. IsPrintable numbers.naming (PhiItem phi)) (λ phi. line indent (phi_text numbers.naming phi)) (new_phi numbers) (SpellsPhi names) (λ phi is. line_prints passes (phi_prints phi is)) phis
-        (all_of_map (IsPrintable numbers.naming) PhiItem phis all)
+        (all_of_map PhiItem (IsPrintable numbers.naming) phis all)
 
     instrs_print : {indent : List ℕ} → Prints Any indent (λ behind. behind) → (instrs : List Instr) → AllByRecursion (IsPrintable numbers.naming) (map InstrItem instrs)
         → Prints Any (flat_map (λ instr. line indent (instr_text numbers.naming instr)) instrs) (Each (SpellsInstr names) (map (new_instr numbers) instrs))
     instrs_print {indent} passes instrs all =
         each_prints (λ instr. IsPrintable numbers.naming (InstrItem instr)) (λ instr. line indent (instr_text numbers.naming instr)) (new_instr numbers) (SpellsInstr names) (λ instr is. line_prints passes (instr_prints instr is)) instrs
-        (all_of_map (IsPrintable numbers.naming) InstrItem instrs all)
+        (all_of_map InstrItem (IsPrintable numbers.naming) instrs all)
 
     block_begins : {indent : List ℕ} → Prints Any indent (λ behind. behind) → (block : BlockId) → IsOneOf numbers.naming.blocks block.0
         → Prints Any (line indent (codes "block " ++ block_name numbers.naming block ++ codes " {")) (λ behind. IsWord (codes "block") ▹ IsBlock names (new_block numbers block) ▹ IsMark 123 ▹ behind)
@@ -320,7 +321,7 @@ module _ (lexing : Lexing) where
   kinds_print : (kinds : List Kind) → AllByRecursion (λ kind. IsCount kind.count) kinds → Prints Stop (listed (map kind_word kinds)) (Separated (λ kind behind. IsKind kind ▹ behind) kinds)
   kinds_print kinds counts =
       let all = listed_prints lexing (λ kind. IsCount kind.count) kind_word (λ kind. kind) (λ kind behind. IsKind kind ▹ behind) (kind_prints lexing) kinds counts in
-      subst (λ l. Prints Stop (listed (map kind_word kinds)) (Separated (λ kind behind. IsKind kind ▹ behind) l)) (map_same kinds) all
+      subst (λ l. Prints Stop (listed (map kind_word kinds)) (Separated (λ kind behind. IsKind kind ▹ behind) l)) (map-same kinds) all
 
   declared_print : (word : List ℕ) (kinds : List Kind) → is_word word ≡ true → AllByRecursion (λ kind. IsCount kind.count) kinds → Prints Any (line [] (kinds_text word kinds)) (λ behind. IsWord word ▹ SpellsKinds kinds behind)
   unfolding is_in_word

@@ -1,5 +1,4 @@
 pub mod BlockGroups
-pub mod EachOf
 pub mod Naming
 pub mod Renumber
 pub mod RenumberedItems

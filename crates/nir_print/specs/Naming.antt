@@ -1,15 +1,16 @@
 -- How a text names the values and blocks of a shader: by their places in text order, as the value numbers of Mesa's NIR printer.
 use Rattle.std.specs.Prelude.{ℕ, ◌+◌, List, [], ◌∷◌, ◌++◌, Option, refl, nat_eq, length, filter}
 use Rattle.std.specs.List.{flat_map, position_or_len, range_with_len, slice_get}
+use Rattle.std.specs.Option.{option_map_or}
 use Rattle.std.specs.Coded.{Coded, code_by, coded_list, coded×, coded_ℕ}
 use Rattle.nir_ir.specs.declared.ids.BlockId.{BlockId}
 use Rattle.nir_ir.specs.declared.ids.ValueId.{ValueId}
 use Rattle.nir_ir.specs.declared.instr.Instr.{Instr}
-use Rattle.nir_ir.specs.declared.instr.Instr.TheVariants.{Alu, Const, Undef, Input, Output, LoadBuf, StoreBuf}
 use Rattle.nir_ir.specs.declared.kind.Kind.{Kind}
 use Rattle.nir_ir.specs.contracts.kind.Kind as kind
 use Rattle.nir_ir.specs.declared.node.PhiSource.{PhiSource}
 use Rattle.nir_ir.specs.Nodes.{Nodes}
+use Rattle.nir_ir.specs.Parts.{parts}
 use Rattle.nir_ir.specs.Items.{Item, BlockHead, PhiItem, InstrItem, JumpItem, IfHead, LoopHead, values_defined, blocks_defined}
 use Rattle.nir_ir.specs.Definitions.{kinds_defined}
 
@@ -27,13 +28,7 @@ abbrev pub with_value : Naming → ValueId → Kind → Naming
 with_value naming value kind = record { values = naming.values ++ value.0 ∷ []; kinds = naming.kinds ++ kind ∷ []; blocks = naming.blocks }
 
 abbrev pub with_instr : Naming → Instr → Naming
-with_instr naming (Alu value op kind srcs) = with_value naming value kind
-with_instr naming (Const value kind comps) = with_value naming value kind
-with_instr naming (Undef value kind) = with_value naming value kind
-with_instr naming (Input value kind slot) = with_value naming value kind
-with_instr naming (Output effect slot src) = naming
-with_instr naming (LoadBuf value kind buffer offset) = with_value naming value kind
-with_instr naming (StoreBuf effect buffer offset src) = naming
+with_instr naming instr = option_map_or (λ defined. with_value naming defined.0 defined.1) (parts instr).defines naming
 
 abbrev pub with_item : Naming → Item → Naming
 with_item naming (BlockHead id) = record { values = naming.values; kinds = naming.kinds; blocks = naming.blocks ++ id.0 ∷ [] }

@@ -58,14 +58,9 @@ impl Found {
 fn collect_instr(found: &mut Found, instr: &Instr) -> Result<(), OutOfMemory>
     ensures { OnOk result (found.new ≡ with_instr found.old instr.now) }
 {
-    match instr {
-        Instr::Alu { value, kind, .. } => found.add_value(*value, *kind),
-        Instr::Const { value, kind, .. } => found.add_value(*value, *kind),
-        Instr::Undef { value, kind } => found.add_value(*value, *kind),
-        Instr::Input { value, kind, .. } => found.add_value(*value, *kind),
-        Instr::Output { .. } => Ok(()),
-        Instr::LoadBuf { value, kind, .. } => found.add_value(*value, *kind),
-        Instr::StoreBuf { .. } => Ok(()),
+    match instr.defines() {
+        Some((value, kind)) => found.add_value(value, kind),
+        None => Ok(()),
     }
 }
 

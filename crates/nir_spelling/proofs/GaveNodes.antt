@@ -23,11 +23,12 @@ use Rattle.nir_spelling.specs.Spelling.{IsValue, IsBlock, SpellsInstr, SpellsPhi
 use Rattle.nir_spelling.specs.Resolving.{depth}
 use Rattle.nir_spelling.proofs.Names.{bytes_eq-refl, get-place_of, no_place, take_one_more}
 use Rattle.nir_spelling.proofs.Passes.{Passes, Passes-refl, word_known}
-use Rattle.nir_spelling.proofs.Tokens.{kind_mark, kind_word_of, ok_is, bind_ok, form_word, form_other_word, length-drop1, begun}
+use Rattle.nir_text.specs.ReadingLaws.{ok_is, bind_ok}
+use Rattle.nir_spelling.proofs.Tokens.{kind_mark, kind_word_of, form_word, form_other_word, length-drop1, begun}
 use Rattle.nir_spelling.proofs.Took.{no_word}
 use Rattle.nir_spelling.proofs.Grows.{Numbers, Numbers-split, after, after-none, after-append, counts_same, counts_in, counts_in-append, one_block, Scans-then, Scans-pass, block_scans}
 use Rattle.nir_spelling.proofs.ReadBlocks.{plus_zero}
-use Rattle.nir_spelling.proofs.Gave.{Follows, plain_follows, follows_mark, follows_word, follows_value, follows_block, cond_true, cond_false, bind_reads, wanted_reads, IsWhole, Gave, gave_mark, gave_word, gave_value}
+use Rattle.nir_spelling.proofs.Gave.{plain_follows, follows_mark, follows_value, follows_block, cond_true, cond_false, bind_reads, wanted_reads, IsWhole, Gave, gave_mark, gave_word, gave_value}
 use Rattle.nir_spelling.proofs.GaveItems.{not_before, Noted, Given, Given-gave, Numbers-behind, given_head}
 use Rattle.nir_spelling.proofs.GaveBlocks.{instrs_stop}
 use Rattle.nir_spelling.proofs.GaveLists.{instrs_given, phis_given, jump_gave, jump_stops}

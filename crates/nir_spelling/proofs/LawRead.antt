@@ -18,7 +18,9 @@ use Rattle.nir_spelling.specs.Lexemes.{lexemes_of, Part, ◌▹◌, Nothing, IsW
 use Rattle.nir_spelling.specs.Spelling.{IsKind, SpellsKinds, Spells}
 use Rattle.nir_spelling.specs.Resolving.{IsWithinLimits, IsSpelled}
 use Rattle.nir_spelling.proofs.Passes.{EndsOnce, Known, pass_number, as_kind}
-use Rattle.nir_spelling.proofs.Tokens.{ok_is, bind_ok, chosen, held, number_kind, there_by_kind, One}
+use Rattle.nir_text.specs.ReadingLaws.{ok_is, bind_ok, held}
+use Rattle.list_laws.specs.BoolLaws.{chosen}
+use Rattle.nir_spelling.proofs.Tokens.{number_kind, there_by_kind, One}
 use Rattle.nir_spelling.proofs.Took.{Took, Took-then, Took-known, took_next, word_took, kind_took}
 use Rattle.nir_spelling.proofs.TookParts.{TakesEach, bracketed_took}
 use Rattle.nir_spelling.proofs.Grows.{InOrder, Numbers, after, counts_in}

@@ -22,7 +22,9 @@ use Rattle.nir_text.specs.Instrs.{effect_begun, effect_here, output_at, store_at
 use Rattle.nir_spelling.specs.Lexemes.{lexemes_of, Part, ◌▹◌, IsWord, IsMark, IsIndex, Each, Separated}
 use Rattle.nir_spelling.specs.Spelling.{IsKind, IsValue, IsBlock, SpellsInstr, SpellsPhiSource, SpellsPhi}
 use Rattle.nir_spelling.proofs.Passes.{Known, Known-behind, Known-drop}
-use Rattle.nir_spelling.proofs.Tokens.{ok_is, bind_ok, chosen, held, not_held, wanted_ok, name_kind, word_form, is_name, One}
+use Rattle.nir_text.specs.ReadingLaws.{ok_is, bind_ok, held, not_held, wanted_ok}
+use Rattle.list_laws.specs.BoolLaws.{chosen}
+use Rattle.nir_spelling.proofs.Tokens.{name_kind, word_form, is_name, One}
 use Rattle.nir_spelling.proofs.Took.{Took, Took-then, Took-none, Took-known, mark_took, word_took, tested_took, kind_took, index_took, value_took, block_took}
 use Rattle.nir_spelling.proofs.TookParts.{plain_mark, mark_ok, mark_next, word_next, TakesEach, bracketed_took}
 use Rattle.nir_spelling.proofs.TookInstrs.{DefinitionPart, definition_spelled, kind_there, definition_took}

@@ -24,7 +24,9 @@ use Rattle.nir_spelling.specs.Spelling.{IsValue, IsBlock, SpellsInstr, SpellsPhi
 use Rattle.nir_spelling.specs.Resolving.{depth}
 use Rattle.nir_spelling.proofs.Names.{bytes_eq-refl, no_place, get_of_more}
 use Rattle.nir_spelling.proofs.Passes.{Known-drop, known_here}
-use Rattle.nir_spelling.proofs.Tokens.{ok_is, bind_ok, chosen, held, not_held, wanted_ok, mark_kind, word_kind, word_form, there_by_kind, One, begins}
+use Rattle.nir_text.specs.ReadingLaws.{ok_is, bind_ok, held, not_held, wanted_ok}
+use Rattle.list_laws.specs.BoolLaws.{chosen}
+use Rattle.nir_spelling.proofs.Tokens.{mark_kind, word_kind, word_form, there_by_kind, One, begins}
 use Rattle.nir_spelling.proofs.Took.{Took-none, mark_took, tested_mark, word_took, tested_took, value_took, no_word}
 use Rattle.nir_spelling.proofs.TookParts.{plain_mark, mark_ok}
 use Rattle.nir_spelling.proofs.Grows.{Numbers, after, counts_same, counts_in, one_block, Extends-naming, block_scans}

@@ -12,7 +12,7 @@ use Rattle.nir_text.specs.Signs.{signs_of}
 use Rattle.nir_text.specs.Tree.{lexed, read_text}
 use Rattle.nir_spelling.specs.Laws.{ReadIsSpelled, SpelledIsRead, SpelledSignsAreRead, NamesAreFound}
 use Rattle.nir_spelling.proofs.Passes.{EndsOnce}
-use Rattle.nir_spelling.proofs.Tokens.{bind_ok, ok_is}
+use Rattle.nir_text.specs.ReadingLaws.{bind_ok, ok_is}
 use Rattle.nir_spelling.proofs.Gave.{bind_reads}
 use Rattle.nir_spelling.proofs.LawRead.{read_signs_spelled}
 use Rattle.nir_spelling.proofs.LawSpelled.{spelled_signs_read}

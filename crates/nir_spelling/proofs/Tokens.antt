@@ -1,48 +1,14 @@
 -- What a token is by its kind, and lists of lexemes that begin with one of some form.
-use Rattle.std.proofs.Common.{◌≡◌, ℕ, ◌+◌, ◌≤◌, Bool, true, false, cond, ◌&&◌, List, [], ◌∷◌, length, drop, ℤ, Option, Some, None, Result, Ok, Err, ◌⊎◌, refl, ap, ◌∙◌, inl, inr, arith, eqb-true, eq-eqb}
+use Rattle.std.proofs.Common.{◌≡◌, ℕ, ◌+◌, ◌≤◌, true, false, ◌&&◌, List, [], ◌∷◌, length, drop, ℤ, Some, refl, ap, ◌∙◌, arith, eqb-true, eq-eqb}
 use Rattle.std.specs.Str.{bytes_eq}
 use Rattle.std.proofs.lemmas.Bool.{and_parts}
 use Rattle.std.proofs.lemmas.Option.{same_Some}
 use Rattle.nir_lex.specs.declared.token.TokenKind.{TokenKind}
 use Rattle.nir_lex.specs.declared.token.TokenKind.TheVariants.{Word, Number, Name, Quoted, Punct, End}
 use Rattle.nir_lex.specs.Kinds as token_kind
-use Rattle.nir_text.specs.declared.fault.TextFault.{TextFault}
 use Rattle.nir_text.specs.Signs.{Sign, word_of, word_of_kind, name_of, name_of_kind, number_of_kind, kind_is_name, kind_is_word, is_word, first_of}
-use Rattle.nir_text.specs.Reading.{Point, next, ◌>>=◌, wanted}
 use Rattle.nir_spelling.specs.Lexemes.{lexeme_of, lexemes_of, Form, Behind, Part, ◌▹◌, IsWord}
 use Rattle.nir_spelling.proofs.Names.{bytes_same, bytes_eq-refl}
-
--- ---- steps that did not fail
-
-abbrev pub done : {A : Type 0} → A → Result A TextFault
-done x = Ok x
-
-pub ok_is : {A : Type 0} (x y : A) → done x ≡ done y → x ≡ y
-ok_is x y e = cc
-
-pub bind_ok : {A B : Type 0} (r : Result A TextFault) (f : A → Result B TextFault) (y : B) → (r >>= f) ≡ Ok y → (x : A) × (r ≡ Ok x) × (f x ≡ Ok y)
-bind_ok (Ok x) f y e = (x, refl, e)
-bind_ok (Err d) f y e = absurd cc
-
--- which way a test went
-pub chosen : {A : Type 0} (b : Bool) (x y z : A) → cond b x y ≡ z → ((b ≡ true) × (x ≡ z)) ⊎ ((b ≡ false) × (y ≡ z))
-chosen true x y z e = inl (refl, e)
-chosen false x y z e = inr (refl, e)
-
--- a test that has to hold, and one that must not
-pub held : {A : Type 0} (b : Bool) (fault : TextFault) (r : Result A TextFault) (y : A) → cond b r (Err fault) ≡ Ok y → (b ≡ true) × (r ≡ Ok y)
-held true fault r y e = (refl, e)
-held false fault r y e = absurd cc
-
-pub not_held : {A : Type 0} (b : Bool) (fault : TextFault) (r : Result A TextFault) (y : A) → cond b (Err fault) r ≡ Ok y → (b ≡ false) × (r ≡ Ok y)
-not_held true fault r y e = absurd cc
-not_held false fault r y e = (refl, e)
-
-pub wanted_ok : {A : Type 0} (o : Option A) (p : Point) (x : A × Point) → wanted o p ≡ Ok x → (o ≡ Some x.0) × (next p ≡ x.1)
-wanted_ok None p x e = absurd cc
-wanted_ok (Some a) p x e =
-    let same = ok_is (a, next p) x e in
-    (ap (λ y. Some y.0) same, ap (λ y. y.1) same)
 
 -- ---- kinds
 

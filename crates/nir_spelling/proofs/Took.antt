@@ -24,7 +24,8 @@ use Rattle.nir_spelling.specs.Spelling.{IsKind, IsComponent, SpellsComponent, Is
 use Rattle.nir_spelling.proofs.Names.{known_place, place_of-get}
 use Rattle.nir_spelling.proofs.Passes.{Passes, Passes-refl, Passes-then, Known, Known-behind, known_here, pass_mark, pass_number, pass_word, pass_any_word, pass_name, known_name, known_block}
 use Rattle.nir_spelling.proofs.Tables.{kind_named-is, kind_word-other, name_of-other, component_of-gives, index_of-is}
-use Rattle.nir_spelling.proofs.Tokens.{ok_is, bind_ok, held, not_held, wanted_ok, mark_kind, word_kind, name_kind, number_kind, word_form, there_by_kind, One, begins}
+use Rattle.nir_text.specs.ReadingLaws.{ok_is, bind_ok, held, not_held, wanted_ok}
+use Rattle.nir_spelling.proofs.Tokens.{mark_kind, word_kind, name_kind, number_kind, word_form, there_by_kind, One, begins}
 
 pub block_is_keyword : is_keyword (codes "block") ≡ true
 unfolding is_keyword

@@ -18,7 +18,9 @@ use Rattle.nir_text.specs.Instrs.{component_at, src_at, opcode_at, alu_at, const
 use Rattle.nir_spelling.specs.Lexemes.{Lexeme, Behind, Part, ◌▹◌, IsWord, IsMark, IsIndex, Separated}
 use Rattle.nir_spelling.specs.Spelling.{IsKind, SpellsComponent, IsValue, SpellsSrc, SpellsInstr}
 use Rattle.nir_spelling.proofs.Passes.{Known}
-use Rattle.nir_spelling.proofs.Tokens.{ok_is, bind_ok, chosen, wanted_ok, One}
+use Rattle.nir_text.specs.ReadingLaws.{ok_is, bind_ok, wanted_ok}
+use Rattle.list_laws.specs.BoolLaws.{chosen}
+use Rattle.nir_spelling.proofs.Tokens.{One}
 use Rattle.nir_spelling.proofs.Took.{Took, Took-then, Took-known, mark_took, tested_took, kind_took, index_took, component_took, opcode_took, opcode_next, value_took}
 use Rattle.nir_spelling.proofs.TookParts.{plain_mark, mark_ok, src_took, TakesEach, separated_took}
 

@@ -21,7 +21,9 @@ use Rattle.nir_spelling.specs.Spelling.{swizzle_word, IsValue, TakesAll, SpellsS
 use Rattle.nir_spelling.proofs.Names.{get-within}
 use Rattle.nir_spelling.proofs.Passes.{Known, known_here, pass_word}
 use Rattle.nir_spelling.proofs.Tables.{swizzle_of-is, swizzle_word-other}
-use Rattle.nir_spelling.proofs.Tokens.{ok_is, bind_ok, chosen, held, wanted_ok, mark_kind, word_kind, there_by_kind, One, begun}
+use Rattle.nir_text.specs.ReadingLaws.{ok_is, bind_ok, held, wanted_ok}
+use Rattle.list_laws.specs.BoolLaws.{chosen}
+use Rattle.nir_spelling.proofs.Tokens.{mark_kind, word_kind, there_by_kind, One, begun}
 use Rattle.nir_spelling.proofs.Took.{Took, Took-then, Took-none, Took-known, took_next, mark_took, tested_mark, value_took, word_of_some}
 
 -- the number of components that the naming gives a value

@@ -1,5 +1,5 @@
 -- A shader that is read from a text is shaped.
-use Rattle.std.proofs.Common.{◌≡◌, ℕ, ◌^◌, ◌<◌, ◌≤◌, List, length, ℤ, pos, negsuc, Option, Some, None, Ok, nat_lt, nat_eq, codes, refl, sym, ap, subst, arith}
+use Rattle.std.proofs.Common.{◌≡◌, ℕ, ◌^◌, ◌<◌, ◌≤◌, List, length, ℤ, pos, negsuc, Option, Some, None, Ok, nat_lt, nat_eq, codes, refl, sym, ap, subst, arith, ◌∙◌}
 use Rattle.std.specs.List.{AllByRecursion, IsDistinct, range_with_len}
 use Rattle.nir_ir.specs.declared.kind.Kind.{Kind}
 use Rattle.nir_ir.specs.Items.{items, values_defined, values_used, blocks_defined, blocks_named, effects_defined, ifs_defined, loops_defined}
@@ -12,9 +12,11 @@ use Rattle.nir_text.specs.Signs.{Sign, number_of_kind}
 use Rattle.nir_text.specs.Naming.{Naming, naming_of, first_unknown}
 use Rattle.nir_text.specs.Reading.{Point, here, next, word_at, kind_at, bracketed_at}
 use Rattle.nir_text.specs.Tree.{list_at, declared_kind_at, buffers_of, buffers_at, end_at, shader_at, no_counts, all_known, read_signs}
-use Rattle.nir_text.proofs.ShapedLists.{AllByRecursion-follows, Counts, Counts-all, range-IsDistinct, range-below, range-IsOneOf}
+use Rattle.list_laws.specs.AllLaws.{all_each}
+use Rattle.nir_text.proofs.ShapedLists.{Counts, Counts-all, range-IsDistinct, range-below, range-IsOneOf}
 use Rattle.nir_text.proofs.ShapedKinds.{naming_of-HaveCounts}
-use Rattle.nir_text.proofs.ShapedPoints.{ok_is, bind_ok, held, Stands, Passes, Passes-then, Passes-to, word_passes}
+use Rattle.nir_text.specs.ReadingLaws.{ok_is, bind_ok, held}
+use Rattle.nir_text.proofs.ShapedPoints.{Stands, Passes, Passes-then, Passes-to, word_passes}
 use Rattle.nir_text.proofs.ShapedSeries.{ReadsEach, bracketed_read}
 use Rattle.nir_text.proofs.ShapedInstrs.{kind_read}
 use Rattle.nir_text.proofs.ShapedItems.{Reads, Reads-behind}
@@ -88,7 +90,7 @@ below-counted numbers to counted = subst (AllByRecursion (λ v. v < to)) (sym (C
 there-counted : (numbers : List ℕ) (to : ℕ) → Counts 0 to numbers → (used : List ℕ) → AllByRecursion (λ v. v < to) used → AllByRecursion (IsOneOf numbers) used
 there-counted numbers to counted used below =
     subst (λ (l : List ℕ). AllByRecursion (IsOneOf l) used) (sym (Counts-all to numbers counted))
-    (AllByRecursion-follows (λ v. v < to) (IsOneOf (range_with_len 0 to)) (λ v lt. range-IsOneOf 0 to v (omega arith) (omega arith)) used below)
+    (all_each (λ v. v < to) (IsOneOf (range_with_len 0 to)) (λ v lt. range-IsOneOf 0 to v (omega arith) (omega arith)) used below)
 
 -- a text that was read to its end, with each name known
 IsShaped-read_whole : (signs : List Sign) (names : Naming) (x : Shader × Point) → ReadsShader names x.1.counts (record { rest = signs; counts = no_counts }) x → IsShaped x.0
@@ -106,11 +108,26 @@ IsShaped-read_whole signs names x read = record {
   outputs = read.outputs;
 }
 
-pub IsShaped-read_signs : (signs : List Sign) (s : Shader) → length signs ≤ 2 ^ 32 → read_signs signs ≡ Ok s → IsShaped s
+record ReadsWhole (signs : List Sign) (s : Shader) : Type 0 where
+  read : Shader × Point
+  whole : ReadsShader (naming_of signs) read.1.counts (record { rest = signs; counts = no_counts }) read
+  same : read.0 ≡ s
+
+whole_read : (signs : List Sign) (s : Shader) → length signs ≤ 2 ^ 32 → read_signs signs ≡ Ok s → ReadsWhole signs s
 unfolding read_signs
-IsShaped-read_signs signs s room e =
+whole_read signs s room e =
     let a = bind_ok (shader_at (naming_of signs) (record { rest = signs; counts = no_counts })) _ s e in
     let k = known_ok (first_unknown (naming_of signs) a.0.1.counts signs) a.0.0 s a.2 in
     let stands : Stands (naming_of signs) a.0.1.counts signs = record { known = k.0; room = room } in
-    let read = shader_read (naming_of signs) a.0.1.counts (naming_of-HaveCounts signs) (record { rest = signs; counts = no_counts }) a.0 stands a.1 in
-    subst IsShaped k.1 (IsShaped-read_whole signs (naming_of signs) a.0 read)
+    record { read = a.0; whole = shader_read (naming_of signs) a.0.1.counts (naming_of-HaveCounts signs) (record { rest = signs; counts = no_counts }) a.0 stands a.1; same = k.1 }
+
+pub IsShaped-read_signs : (signs : List Sign) (s : Shader) → length signs ≤ 2 ^ 32 → read_signs signs ≡ Ok s → IsShaped s
+IsShaped-read_signs signs s room e =
+    let read = whole_read signs s room e in
+    subst IsShaped read.same (IsShaped-read_whole signs (naming_of signs) read.read read.whole)
+
+-- and has few values
+pub few_values-read_signs : (signs : List Sign) (s : Shader) → length signs ≤ 2 ^ 32 → read_signs signs ≡ Ok s → s.next_value ≤ 16384
+few_values-read_signs signs s room e =
+    let read = whole_read signs s room e in
+    subst (λ (n : ℕ). n ≤ 16384) (sym read.whole.next_value ∙ ap (λ t. t.next_value) read.same) (read.whole.body.few (omega arith))

@@ -20,9 +20,12 @@ use Rattle.nir_text.specs.Kinds.{kind_named}
 use Rattle.nir_text.specs.Naming.{Naming}
 use Rattle.nir_text.specs.Reading.{Point, here, next, mark_at, wanted, kind_at, index_at, value_used_at, separated_at}
 use Rattle.nir_text.specs.Instrs.{is_keyword, component_of, component_at, swizzle_of, count_of, src_at, named_or, opcode_of, opcode_at, alu_at, const_at, undef_at, input_at, load_at, definition_at}
-use Rattle.nir_text.proofs.ShapedLists.{AllByRecursion-map, AllByRecursion-follows}
+use Rattle.list_laws.specs.AllLaws.{all_each}
+use Rattle.nir_text.proofs.ShapedLists.{AllByRecursion-map}
 use Rattle.nir_text.proofs.ShapedKinds.{kind_of_word-IsCount, count_of-IsCount, range-IsSwizzle, swizzle_of_word-IsSwizzle, component_of-fits}
-use Rattle.nir_text.proofs.ShapedPoints.{ok_is, bind_ok, chosen, not_held, Stands, Passes, Passes-then, Passes-to, mark_passes, wanted_passes, index_passes, value_used}
+use Rattle.nir_text.specs.ReadingLaws.{ok_is, bind_ok, not_held}
+use Rattle.list_laws.specs.BoolLaws.{chosen}
+use Rattle.nir_text.proofs.ShapedPoints.{Stands, Passes, Passes-then, Passes-to, mark_passes, wanted_passes, index_passes, value_used}
 use Rattle.nir_text.proofs.ShapedSeries.{ReadsEach, separated_read}
 
 -- a read opcode
@@ -108,7 +111,7 @@ module _ (names : Naming) (total : counts.Counts) where
           target = refl;
           effect = refl;
           used = AllByRecursion-map (λ (id : ValueId). id.0 < total.values) (λ v. v < total.values) (λ id. id.0) (λ id lt. lt) (map (λ src. src.value) c.0.0) values;
-          shaped = (kind.1, srcs.len, AllByRecursion-follows IsSource (λ src. IsSwizzle src.swizzle) (λ src is. is.swizzle) c.0.0 srcs.all);
+          shaped = (kind.1, srcs.len, all_each IsSource (λ src. IsSwizzle src.swizzle) (λ src is. is.swizzle) c.0.0 srcs.all);
         },
       )
 

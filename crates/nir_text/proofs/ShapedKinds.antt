@@ -12,7 +12,7 @@ use Rattle.nir_text.specs.Signs.{Sign, word_of, name_of, is_mark, is_word, first
 use Rattle.nir_text.specs.Kinds.{KindWord, kind_words, kind_named}
 use Rattle.nir_text.specs.Naming.{Naming, no_names, place_of, count_behind, with_value, value_noted, block_noted, noted, naming_from, naming_of}
 use Rattle.nir_text.specs.Instrs.{component_of, letter_of, letter_before, letters_of, swizzle_of, count_of}
-use Rattle.nir_text.proofs.ShapedLists.{AllByRecursion-append}
+use Rattle.list_laws.specs.AllLaws.{all_append}
 
 -- ---- kinds
 
@@ -56,7 +56,7 @@ HaveCounts names = AllByRecursion IsCount names.counts
 with_value-HaveCounts : (name : List ℕ) (count : ℕ) (names : Naming) → IsCount count → HaveCounts names → HaveCounts (with_value name count names)
 with_value-HaveCounts name count names one all =
     cond_both (is_some (place_of name names.values)) names (record names { values = names.values ++ name ∷ []; counts = names.counts ++ count ∷ [] }) HaveCounts (λ _. all)
-    (λ _. AllByRecursion-append IsCount names.counts (count ∷ []) all (one, tt))
+    (λ _. all_append IsCount names.counts (count ∷ []) all (one, tt))
 
 value_noted-HaveCounts : (name : Option (List ℕ)) (behind : List Sign) (names : Naming) → HaveCounts names → HaveCounts (value_noted name behind names)
 value_noted-HaveCounts None behind names all = all

@@ -4,18 +4,10 @@ use Rattle.std.specs.List.{AllByRecursion, IsDistinct, list_any, range_with_len}
 use Rattle.std.proofs.lemmas.Bool.{cases_eq, or_left, or_right}
 use Rattle.nir_ir.specs.Shaped.{IsOneOf}
 
-pub AllByRecursion-append : {X : Type 0} (P : X → Type 0) (xs ys : List X) → AllByRecursion P xs → AllByRecursion P ys → AllByRecursion P (xs ++ ys)
-AllByRecursion-append P [] ys first second = second
-AllByRecursion-append P (x ∷ xs) ys first second = (first.0, AllByRecursion-append P xs ys first.1 second)
-
 -- what follows item by item
 pub AllByRecursion-map : {X Y : Type 0} (P : X → Type 0) (Q : Y → Type 0) (f : X → Y) → ((x : X) → P x → Q (f x)) → (xs : List X) → AllByRecursion P xs → AllByRecursion Q (map f xs)
 AllByRecursion-map P Q f follows [] all = tt
 AllByRecursion-map P Q f follows (x ∷ xs) all = (follows x all.0, AllByRecursion-map P Q f follows xs all.1)
-
-pub AllByRecursion-follows : {X : Type 0} (P Q : X → Type 0) → ((x : X) → P x → Q x) → (xs : List X) → AllByRecursion P xs → AllByRecursion Q xs
-AllByRecursion-follows P Q follows [] all = tt
-AllByRecursion-follows P Q follows (x ∷ xs) all = (follows x all.0, AllByRecursion-follows P Q follows xs all.1)
 
 -- ---- numbers in order
 

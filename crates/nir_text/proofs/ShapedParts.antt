@@ -1,5 +1,5 @@
 -- Instructions, phis and blocks that are read take the next numbers in order.
-use Rattle.std.proofs.Common.{◌≡◌, ℕ, zero, suc, ◌+◌, ◌^◌, ◌<◌, ◌≤◌, List, [], ◌∷◌, ◌++◌, map, length, Option, Some, None, option_to_list, Ok, nat_lt, codes, refl, sym, ap, ◌∙◌, subst, inl, inr, arith}
+use Rattle.std.proofs.Common.{◌≡◌, ℕ, zero, suc, ◌+◌, ◌^◌, ◌<◌, ◌≤◌, List, [], ◌∷◌, ◌++◌, map, length, Option, Some, None, option_to_list, Ok, nat_lt, codes, refl, sym, ap, ◌∙◌, subst, inl, inr, arith, ltb-true}
 use Rattle.std.specs.List.{AllByRecursion}
 use Rattle.nir_ir.specs.declared.ids.BlockId.{BlockId}
 use Rattle.nir_ir.specs.declared.ids.EffectId.{EffectId}
@@ -21,20 +21,28 @@ use Rattle.nir_text.specs.Reading.{Point, here, next, value_begun, block_begun, 
 use Rattle.nir_text.specs.Instrs.{effect_begun, effect_here, output_at, store_at, instr_at, begins_instr, instrs_at, source_at, phi_at, begins_phi, phis_at, jump_at}
 use Rattle.nir_text.specs.Tree.{block_at}
 use Rattle.nir_text.proofs.ShapedLists.{AllByRecursion-map, Counts, Counts-none, Counts-one}
-use Rattle.nir_text.proofs.ShapedPoints.{ok_is, bind_ok, chosen, held, not_held, Stands, Passes, Passes-refl, Passes-next, Passes-then, Passes-to, mark_passes, word_passes, index_passes, value_used, block_used}
+use Rattle.nir_text.specs.ReadingLaws.{ok_is, bind_ok, held, not_held}
+use Rattle.list_laws.specs.BoolLaws.{chosen}
+use Rattle.nir_text.proofs.ShapedPoints.{Stands, Passes, Passes-refl, Passes-next, Passes-then, Passes-to, mark_passes, word_passes, index_passes, value_used, block_used}
 use Rattle.nir_text.proofs.ShapedSeries.{ReadsEach, bracketed_read}
 use Rattle.nir_text.proofs.ShapedInstrs.{kind_read, IsDefinition, definition_read}
-use Rattle.nir_text.proofs.ShapedItems.{Reads, Reads-one, Reads-none, Reads-then}
+use Rattle.nir_text.proofs.ShapedItems.{AreFew, AreFew-kept, Reads, Reads-one, Reads-none, Reads-then}
 
 module _ (names : Naming) (total : counts.Counts) where
   -- a token took these numbers
   record Takes (p q : Point) (taken : counts.Counts) : Type 0 where
     counts : q.counts ≡ taken
+    few : AreFew p q
     shorter : length q.rest ≤ length p.rest
     stands : Stands names total q.rest
 
   Takes-then : (p q r : Point) (taken : counts.Counts) → Takes p q taken → Passes names total q r → Takes p r taken
-  Takes-then p q r taken first second = record { counts = second.counts ∙ first.counts; shorter = omega (arith, first.shorter, second.shorter); stands = second.stands }
+  Takes-then p q r taken first second = record {
+    counts = second.counts ∙ first.counts;
+    few = λ few. AreFew-kept q r (ap (λ c. c.values) second.counts) (first.few few);
+    shorter = omega (arith, first.shorter, second.shorter);
+    stands = second.stands;
+  }
 
   abbrev one_value : counts.Counts → counts.Counts
   one_value c = record c { values = c.values + 1 }
@@ -53,7 +61,7 @@ module _ (names : Naming) (total : counts.Counts) where
       let once = not_held (is_among_first p.counts.values (place_of a.0.0 names.values)) (Twice (here p).place) _ x a.2 in
       let few = held (nat_lt p.counts.values 16384) (TooMany (here p).place) _ x once.1 in
       let made : ValueId × Point = (record { 0 = p.counts.values }, value_begun p) in
-      subst (λ (y : ValueId × Point). (y.0.0 ≡ p.counts.values) × Takes p y.1 (one_value p.counts)) {x = made} (ok_is made x few.1) (refl, record { counts = refl; shorter = token.shorter; stands = token.stands })
+      subst (λ (y : ValueId × Point). (y.0.0 ≡ p.counts.values) × Takes p y.1 (one_value p.counts)) {x = made} (ok_is made x few.1) (refl, record { counts = refl; few = λ _. omega (arith, ltb-true p.counts.values 16384 few.0); shorter = token.shorter; stands = token.stands })
 
   block_defined : (p : Point) (x : BlockId × Point) → Stands names total p.rest → block_defined_at names p ≡ Ok x → (x.0.0 ≡ p.counts.blocks) × Takes p x.1 (one_block p.counts)
   unfolding block_defined_at
@@ -62,7 +70,7 @@ module _ (names : Naming) (total : counts.Counts) where
       let token = Passes-next names total p stands in
       let once = not_held (is_among_first p.counts.blocks (place_of a.0.0 names.blocks)) (Twice (here p).place) _ x a.2 in
       let made : BlockId × Point = (record { 0 = p.counts.blocks }, block_begun p) in
-      subst (λ (y : BlockId × Point). (y.0.0 ≡ p.counts.blocks) × Takes p y.1 (one_block p.counts)) {x = made} (ok_is made x once.1) (refl, record { counts = refl; shorter = token.shorter; stands = token.stands })
+      subst (λ (y : BlockId × Point). (y.0.0 ≡ p.counts.blocks) × Takes p y.1 (one_block p.counts)) {x = made} (ok_is made x once.1) (refl, record { counts = refl; few = λ few. few; shorter = token.shorter; stands = token.stands })
 
   -- an item that took the next value, block or effect, and nothing else
   value_item : (p q : Point) (value : ValueId) → value.0 ≡ p.counts.values → q.counts ≡ one_value p.counts → Counts p.counts.values q.counts.values (map (λ id. id.0) (option_to_list (Some value)))
@@ -72,6 +80,7 @@ module _ (names : Naming) (total : counts.Counts) where
   defined_item : (p q : Point) (value : ValueId) (instr : Instr) → value.0 ≡ p.counts.values → Takes p q (one_value p.counts) → IsDefinition names total value instr → Reads names total p q (InstrItem instr ∷ [])
   defined_item p q value instr same takes is = Reads-one names total p q (InstrItem instr) (record {
     values = subst (λ (o : Option ValueId). Counts p.counts.values q.counts.values (map (λ id. id.0) (option_to_list o))) (sym is.target) (value_item p q value same takes.counts);
+    few = takes.few;
     blocks = Counts-none p.counts.blocks q.counts.blocks (ap (λ c. c.blocks) takes.counts);
     effects = subst (λ (o : Option EffectId). Counts p.counts.effects q.counts.effects (map (λ id. id.0) (option_to_list o))) (sym is.effect) (Counts-none p.counts.effects q.counts.effects (ap (λ c. c.effects) takes.counts));
     ifs = Counts-none p.counts.ifs q.counts.ifs (ap (λ c. c.ifs) takes.counts);
@@ -87,12 +96,13 @@ module _ (names : Naming) (total : counts.Counts) where
   effect_takes p q stands follows =
       let word = Passes-next names total p stands in
       let part = follows word.stands in
-      record { counts = part.counts; shorter = omega (arith, word.shorter, part.shorter); stands = part.stands }
+      record { counts = part.counts; few = AreFew-kept p q (ap (λ c. c.values) part.counts); shorter = omega (arith, word.shorter, part.shorter); stands = part.stands }
 
   -- an output or a store
   effect_item : (p q : Point) (instr : Instr) → target instr ≡ None → effect_of instr ≡ Some (effect_here p) → AllByRecursion (λ v. v < total.values) (map (λ id. id.0) (reads instr)) → IsShapedInstr instr → Takes p q (one_effect p.counts) → Reads names total p q (InstrItem instr ∷ [])
   effect_item p q instr target effect used shaped takes = Reads-one names total p q (InstrItem instr) (record {
     values = subst (λ (o : Option ValueId). Counts p.counts.values q.counts.values (map (λ id. id.0) (option_to_list o))) (sym target) (Counts-none p.counts.values q.counts.values (ap (λ c. c.values) takes.counts));
+    few = takes.few;
     blocks = Counts-none p.counts.blocks q.counts.blocks (ap (λ c. c.blocks) takes.counts);
     effects = subst (λ (o : Option EffectId). Counts p.counts.effects q.counts.effects (map (λ id. id.0) (option_to_list o))) (sym effect) (Counts-one p.counts.effects q.counts.effects (ap (λ c. c.effects) takes.counts));
     ifs = Counts-none p.counts.ifs q.counts.ifs (ap (λ c. c.ifs) takes.counts);
@@ -208,6 +218,7 @@ module _ (names : Naming) (total : counts.Counts) where
       let blocks : AllByRecursion (λ (id : BlockId). id.0 < total.blocks) (map (λ source. source.from) phi.sources) = AllByRecursion-map IsPhiSource (λ (id : BlockId). id.0 < total.blocks) (λ source. source.from) (λ source is. is.from) phi.sources sources in
       Reads-one names total p q (PhiItem phi) (record {
         values = value_item p q phi.value same takes.counts;
+        few = takes.few;
         blocks = Counts-none p.counts.blocks q.counts.blocks (ap (λ c. c.blocks) takes.counts);
         effects = Counts-none p.counts.effects q.counts.effects (ap (λ c. c.effects) takes.counts);
         ifs = Counts-none p.counts.ifs q.counts.ifs (ap (λ c. c.ifs) takes.counts);
@@ -277,6 +288,7 @@ module _ (names : Naming) (total : counts.Counts) where
   jump_items p q None passes = Reads-none names total p q passes
   jump_items p q (Some jump) passes = Reads-one names total p q (JumpItem jump) (record {
     values = Counts-none p.counts.values q.counts.values (ap (λ c. c.values) passes.counts);
+    few = AreFew-kept p q (ap (λ c. c.values) passes.counts);
     blocks = Counts-none p.counts.blocks q.counts.blocks (ap (λ c. c.blocks) passes.counts);
     effects = Counts-none p.counts.effects q.counts.effects (ap (λ c. c.effects) passes.counts);
     ifs = Counts-none p.counts.ifs q.counts.ifs (ap (λ c. c.ifs) passes.counts);
@@ -291,6 +303,7 @@ module _ (names : Naming) (total : counts.Counts) where
   head_item : (p q : Point) (id : BlockId) → id.0 ≡ p.counts.blocks → Takes p q (one_block p.counts) → Reads names total p q (BlockHead id ∷ [])
   head_item p q id same takes = Reads-one names total p q (BlockHead id) (record {
     values = Counts-none p.counts.values q.counts.values (ap (λ c. c.values) takes.counts);
+    few = takes.few;
     blocks = subst (λ (n : ℕ). Counts p.counts.blocks q.counts.blocks (n ∷ [])) (sym same) (Counts-one p.counts.blocks q.counts.blocks (ap (λ c. c.blocks) takes.counts));
     effects = Counts-none p.counts.effects q.counts.effects (ap (λ c. c.effects) takes.counts);
     ifs = Counts-none p.counts.ifs q.counts.ifs (ap (λ c. c.ifs) takes.counts);

@@ -9,40 +9,8 @@ use Rattle.nir_text.specs.declared.fault.TextFault.{TextFault}
 use Rattle.nir_text.specs.declared.fault.TextFault.TheVariants.{Expected}
 use Rattle.nir_text.specs.Signs.{Sign, word_of, name_of, number_of_kind, is_mark, is_word, first_of}
 use Rattle.nir_text.specs.Naming.{Naming, place_of, is_among_first, is_unknown, is_unknown_name, is_unknown_block, first_unknown}
+use Rattle.nir_text.specs.ReadingLaws.{ok_is, bind_ok, held, wanted_ok}
 use Rattle.nir_text.specs.Reading.{Point, here, next, ◌>>=◌, mark_at, word_at, wanted, index_of, index_at, value_used_at, block_used_at}
-
--- ---- steps that did not fail
-
-abbrev pub done : {A : Type 0} → A → Result A TextFault
-done x = Ok x
-
-pub ok_is : {A : Type 0} (x y : A) → done x ≡ done y → x ≡ y
-ok_is x y e = cc
-
-pub bind_ok : {A B : Type 0} (r : Result A TextFault) (f : A → Result B TextFault) (y : B) → (r >>= f) ≡ Ok y → (x : A) × (r ≡ Ok x) × (f x ≡ Ok y)
-bind_ok (Ok x) f y e = (x, refl, e)
-bind_ok (Err d) f y e = absurd cc
-
--- which way a test went
-pub chosen : {A : Type 0} (b : Bool) (x y z : A) → cond b x y ≡ z → ((b ≡ true) × (x ≡ z)) ⊎ ((b ≡ false) × (y ≡ z))
-chosen true x y z e = inl (refl, e)
-chosen false x y z e = inr (refl, e)
-
--- a test that has to hold
-pub held : {A : Type 0} (b : Bool) (fault : TextFault) (r : Result A TextFault) (y : A) → cond b r (Err fault) ≡ Ok y → (b ≡ true) × (r ≡ Ok y)
-held true fault r y e = (refl, e)
-held false fault r y e = absurd cc
-
--- a test that must not hold
-pub not_held : {A : Type 0} (b : Bool) (fault : TextFault) (r : Result A TextFault) (y : A) → cond b (Err fault) r ≡ Ok y → (b ≡ false) × (r ≡ Ok y)
-not_held true fault r y e = absurd cc
-not_held false fault r y e = (refl, e)
-
-pub wanted_ok : {A : Type 0} (o : Option A) (p : Point) (x : A × Point) → wanted o p ≡ Ok x → (o ≡ Some x.0) × (next p ≡ x.1)
-wanted_ok None p x e = absurd cc
-wanted_ok (Some a) p x e =
-    let same = ok_is (a, next p) x e in
-    (ap (λ y. Some y.0) same, ap (λ y. y.1) same)
 
 -- what stands at the front is known, and so is all else
 known-here : (unknown : Bool) (place : ℕ) (others : Option ℕ) → cond unknown (Some place) others ≡ None → (unknown ≡ false) × (others ≡ None)

@@ -6,7 +6,9 @@ use Rattle.nir_text.specs.declared.fault.TextFault.{TextFault}
 use Rattle.nir_text.specs.Signs.{is_mark}
 use Rattle.nir_text.specs.Naming.{Naming}
 use Rattle.nir_text.specs.Reading.{Point, here, next, mark_at, commas_at, separated_at, more_at, bracketed_at}
-use Rattle.nir_text.proofs.ShapedPoints.{ok_is, bind_ok, chosen, Stands, Passes, Passes-refl, Passes-then, Passes-to, mark_passes, mark-shorter, mark_eats}
+use Rattle.nir_text.specs.ReadingLaws.{ok_is, bind_ok}
+use Rattle.list_laws.specs.BoolLaws.{chosen}
+use Rattle.nir_text.proofs.ShapedPoints.{Stands, Passes, Passes-refl, Passes-then, Passes-to, mark_passes, mark-shorter, mark_eats}
 
 module _ (names : Naming) (total : counts.Counts) {A : Type 0} (P : A → Type 0) (read : ℕ → Point → Result (A × Point) TextFault) where
   -- each item passes, and has P

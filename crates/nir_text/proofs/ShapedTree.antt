@@ -16,8 +16,10 @@ use Rattle.nir_text.specs.Naming.{Naming}
 use Rattle.nir_text.specs.Reading.{Point, here, next, mark_at, word_at, value_used_at}
 use Rattle.nir_text.specs.Tree.{block_at, if_begun, loop_begun, if_at, loop_at, node_at, nodes_at, list_at}
 use Rattle.nir_text.proofs.ShapedLists.{Counts-none, Counts-one}
-use Rattle.nir_text.proofs.ShapedPoints.{ok_is, bind_ok, chosen, held, Stands, Passes, Passes-next, mark_passes, word_passes, value_used}
-use Rattle.nir_text.proofs.ShapedItems.{Reads, Reads-one, Reads-none, Reads-then, Reads-behind, Reads-before}
+use Rattle.nir_text.specs.ReadingLaws.{ok_is, bind_ok, held}
+use Rattle.list_laws.specs.BoolLaws.{chosen}
+use Rattle.nir_text.proofs.ShapedPoints.{Stands, Passes, Passes-next, mark_passes, word_passes, value_used}
+use Rattle.nir_text.proofs.ShapedItems.{AreFew-kept, Reads, Reads-one, Reads-none, Reads-then, Reads-behind, Reads-before}
 use Rattle.nir_text.proofs.ShapedParts.{block_read}
 
 module _ (names : Naming) (total : counts.Counts) where
@@ -28,6 +30,7 @@ module _ (names : Naming) (total : counts.Counts) where
   if_head : (p q : Point) (cond : ValueId) → Passes names total (if_begun p) q → length (if_begun p).rest ≤ length p.rest → cond.0 < total.values → Reads names total p q (IfHead (record { 0 = p.counts.ifs }) cond ∷ [])
   if_head p q cond passes shorter used = Reads-one names total p q (IfHead (record { 0 = p.counts.ifs }) cond) (record {
     values = Counts-none p.counts.values q.counts.values (ap (λ c. c.values) passes.counts);
+    few = AreFew-kept p q (ap (λ c. c.values) passes.counts);
     blocks = Counts-none p.counts.blocks q.counts.blocks (ap (λ c. c.blocks) passes.counts);
     effects = Counts-none p.counts.effects q.counts.effects (ap (λ c. c.effects) passes.counts);
     ifs = Counts-one p.counts.ifs q.counts.ifs (ap (λ c. c.ifs) passes.counts);
@@ -44,6 +47,7 @@ module _ (names : Naming) (total : counts.Counts) where
       let word = Passes-next names total p stands in
       Reads-one names total p (loop_begun p) (LoopHead (record { 0 = p.counts.loops })) (record {
         values = Counts-none p.counts.values p.counts.values refl;
+        few = λ few. few;
         blocks = Counts-none p.counts.blocks p.counts.blocks refl;
         effects = Counts-none p.counts.effects p.counts.effects refl;
         ifs = Counts-none p.counts.ifs p.counts.ifs refl;

@@ -4,6 +4,7 @@ pub mod Kinds
 pub mod Naming
 pub mod Parts
 pub mod Reading
+pub mod ReadingLaws
 pub mod Signs
 pub mod Table
 pub mod Tree

@@ -72,7 +72,8 @@ fn parts_at<'a>(
 fn shader_of(alloc: Global, text: &[u8], tokens: &[Token]) -> Result<Shader, TextFault>
     requires within { AreWithin (length text.now) tokens.now }
     requires few { length tokens.now ≤ 2 ^ 32 }
-    ensures { Gives (λ shader. shader) result (read_signs (signs_of text.now tokens.now)) }
+    ensures exact { Gives (λ shader. shader) result (read_signs (signs_of text.now tokens.now)) }
+    ensures few { IfOk result (λ shader. shader.next_value ≤ 16384) }
 {
     let names = naming_of(alloc, text, tokens)?;
     let (parts, end) = parts_at(alloc, &names, text, tokens)?;
@@ -99,10 +100,11 @@ fn tokens_of(alloc: Global, text: &[u8]) -> Result<Tokens, TextFault>
 
 /// The shader that a text spells, or the first fault of the text: a fault of its tokens, else the
 /// first token that breaks a rule of the grammar, else the first name that nothing defines.
-/// `OutOfMemory` comes only for want of memory.
+/// `OutOfMemory` comes only for want of memory. A text defines at most 16,384 values.
 pub fn read_shader(alloc: Global, text: &[u8]) -> Result<Shader, TextFault>
     requires { length text.now < 2 ^ 32 }
-    ensures { Gives (λ shader. shader) result (read_text text.now) }
+    ensures exact { Gives (λ shader. shader) result (read_text text.now) }
+    ensures few { IfOk result (λ shader. shader.next_value ≤ 16384) }
 {
     let list = tokens_of(alloc, text)?;
     shader_of(alloc, text, list.as_slice())

@@ -16,6 +16,7 @@ use Rattle.nir_ir.specs.declared.instr.Src.{Src}
 use Rattle.nir_ir.specs.declared.kind.Kind.{Kind}
 use Rattle.nir_ir.specs.declared.node.Phi.{Phi}
 use Rattle.nir_ir.specs.declared.node.PhiSource.{PhiSource}
+use Rattle.nir_ir.specs.Definitions.{alu_of}
 use Rattle.nir_ir.specs.Items.{Item, BlockHead, PhiItem, InstrItem, JumpItem, IfHead, LoopHead, block_items, items, reads}
 use Rattle.nir_ir.specs.Nodes.{Nodes, Nil, BlockThen, IfThen, LoopThen}
 use Rattle.nir_ir.specs.Shader.{Shader}
@@ -155,13 +156,7 @@ abbrev pub names_components : Kinds → Src → Bool
 names_components kinds src = list_all (λ entry. nat_lt entry (count_in kinds src.value)) src.swizzle
 
 abbrev pub instr_names_components : Kinds → Instr → Bool
-instr_names_components kinds (Alu value op kind srcs) = list_all (names_components kinds) srcs
-instr_names_components kinds (Const value kind comps) = true
-instr_names_components kinds (Undef value kind) = true
-instr_names_components kinds (Input value kind slot) = true
-instr_names_components kinds (Output effect slot src) = true
-instr_names_components kinds (LoadBuf value kind buffer offset) = true
-instr_names_components kinds (StoreBuf effect buffer offset src) = true
+instr_names_components kinds instr = option_map_or (λ alu. list_all (names_components kinds) alu.1) (alu_of instr) true
 
 abbrev pub swizzles_fit : Kinds → Item → Bool
 swizzles_fit kinds (BlockHead id) = true

@@ -29,30 +29,13 @@ fn tell(kinds: &mut [Option<Kind>], value: ValueId, kind: Kind)
     }
 }
 
-/// The kind of what an instruction defines; None for an output and a store.
-fn target_kind(instr: &Instr) -> Option<Kind>
-    ensures { result ≡ kind_of_target instr.now }
-{
-    match instr {
-        Instr::Alu { kind, .. } => Some(*kind),
-        Instr::Const { kind, .. } => Some(*kind),
-        Instr::Undef { kind, .. } => Some(*kind),
-        Instr::Input { kind, .. } => Some(*kind),
-        Instr::Output { .. } => None,
-        Instr::LoadBuf { kind, .. } => Some(*kind),
-        Instr::StoreBuf { .. } => None,
-    }
-}
-
 /// Tells the kind of what an instruction defines.
 fn tell_instr(kinds: &mut [Option<Kind>], instr: &Instr)
     ensures { kinds.new ≡ told (InstrItem instr.now) kinds.old }
 {
-    match (instr.target(), target_kind(instr)) {
-        (Some(value), Some(kind)) => tell(kinds, value, kind),
-        (Some(_), None) => {}
-        (None, Some(_)) => {}
-        (None, None) => {}
+    match instr.defines() {
+        Some((value, kind)) => tell(kinds, value, kind),
+        None => {}
     }
 }
 

@@ -1,5 +1,0 @@
-use Rattle.std.proofs.Common.{length}
-use Rattle.nir_mean.proofs.fits.+hold_bytes.Given as goal
-
-abbrev pub decreases-hold_bytes : goal.decreases-hold_bytes
-decreases-hold_bytes l = length l.buffers.now
