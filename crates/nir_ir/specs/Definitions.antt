@@ -11,6 +11,8 @@ use Rattle.nir_ir.specs.declared.instr.Instr.{Instr}
 use Rattle.nir_ir.specs.declared.kind.Kind.{Kind}
 use Rattle.nir_ir.specs.declared.node.Phi.{Phi}
 use Rattle.nir_ir.specs.Parts.{parts}
+use Rattle.nir_ir.specs.declared.node.PhiSource.{PhiSource}
+use Rattle.nir_ir.specs.declared.ids.BlockId.{BlockId}
 use Rattle.nir_ir.specs.Nodes.{Nodes}
 use Rattle.nir_ir.specs.Items.{Item, BlockHead, PhiItem, InstrItem, JumpItem, IfHead, LoopHead, items, target}
 
@@ -86,9 +88,20 @@ alu_at body value = option_and_then alu_of (instr_defining value body)
 abbrev pub const_at : Nodes → ValueId → Option (List ℕ)
 const_at body value = option_and_then const_of (instr_defining value body)
 
+-- whether a phi's source is the one for the block that control comes from; none is the entry of the shader
+abbrev pub is_from : Option BlockId → PhiSource → Bool
+is_from from source = list_any (λ id. nat_eq id.0 source.from.0) (option_to_list from)
+
 -- the kind of a value: that of the instruction or phi that defines it
 abbrev pub kind_at : Nodes → ValueId → Option Kind
 kind_at body value = option_or (option_and_then kind_of_target (instr_defining value body)) (option_map (λ phi. phi.kind) (phi_defining value body))
 
+-- the kinds of values, where they are defined
+abbrev pub Kinds : Type 0
+Kinds = ValueId → Option Kind
+
+abbrev pub width_in : Kinds → ValueId → Width
+width_in kinds value = option_map_or (λ kind. kind.width) (kinds value) W1
+
 abbrev pub width_at : Nodes → ValueId → Width
-width_at body value = option_map_or (λ kind. kind.width) (kind_at body value) W1
+width_at body value = width_in (kind_at body) value

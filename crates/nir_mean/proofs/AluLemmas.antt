@@ -24,7 +24,7 @@ pub record AreSources (table : List View) (srcs : List Src) (views : List View) 
   pub widths : views_widths views ≡ map (λ src. (kinds_of table src.value.0).width) srcs
   pub comps : views_comps views ≡ map (read (values_of table)) srcs
 
-sizes : (s : Shader) (table : List View) (srcs : List Src) (views : List View) → IsTable s table → AreSources table srcs views → views_widths views ≡ source_sizes s.body srcs
+sizes : (s : Shader) (table : List View) (srcs : List Src) (views : List View) → IsTable s table → AreSources table srcs views → views_widths views ≡ source_sizes (kind_at s.body) srcs
 sizes s table srcs views is are = are.widths ∙ table_sizes s table srcs is
 
 counts_seen : (views : List View) → views_counts views ≡ map (λ comps. length comps) (views_comps views)
@@ -54,11 +54,11 @@ views_fit (view ∷ views) = (view.fits, views_fit views)
 
 -- what the opcode makes of them is what the instruction makes, and it is of the instruction's kind
 pub sources_mean : (s : Shader) (table : List View) (op : Op) (kind : Kind) (srcs : List Src) (views : List View) → IsTable s table → AreSources table srcs views
-    → view_mean op (width_bits (unsized_width op kind.width (views_widths views))) (width_bits kind.width) kind.count (views_comps views) ≡ alu_mean s.body op kind srcs (values_of table)
+    → view_mean op (width_bits (unsized_width op kind.width (views_widths views))) (width_bits kind.width) kind.count (views_comps views) ≡ alu_mean (kind_at s.body) op kind srcs (values_of table)
 unfolding alu_mean
 sources_mean s table op kind srcs views is are =
     ap (λ widths. view_mean op (width_bits (unsized_width op kind.width widths)) (width_bits kind.width) kind.count (views_comps views)) (sizes s table srcs views is are)
-    ∙ ap (λ comps. view_mean op (width_bits (unsized_width op kind.width (source_sizes s.body srcs))) (width_bits kind.width) kind.count comps) are.comps
+    ∙ ap (λ comps. view_mean op (width_bits (unsized_width op kind.width (source_sizes (kind_at s.body) srcs))) (width_bits kind.width) kind.count comps) are.comps
 
 pub sources_kind : (s : Shader) (table : List View) (op : Op) (kind : Kind) (srcs : List Src) (views : List View) → IsTable s table → AreSources table srcs views
     → AluFits (kind_at s.body) op kind srcs

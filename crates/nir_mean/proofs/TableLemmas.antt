@@ -37,7 +37,7 @@ pub table_width : (s : Shader) (table : List View) (id : ValueId) → IsTable s 
 table_width s table id is = ap (λ kind. kind.width) (is.kinds id) ∙ width_found (kind_at s.body id)
 
 -- the bit sizes of sources
-pub table_sizes : (s : Shader) (table : List View) (srcs : List Src) → IsTable s table → map (λ src. (kinds_of table src.value.0).width) srcs ≡ source_sizes s.body srcs
+pub table_sizes : (s : Shader) (table : List View) (srcs : List Src) → IsTable s table → map (λ src. (kinds_of table src.value.0).width) srcs ≡ source_sizes (kind_at s.body) srcs
 table_sizes s table [] is = refl
 table_sizes s table (src ∷ srcs) is =
     ap (λ width. width ∷ map (λ source. (kinds_of table source.value.0).width) srcs) (table_width s table src.value is)

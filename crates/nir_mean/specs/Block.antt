@@ -61,7 +61,7 @@ input_kind (first ∷ kinds) (comps ∷ inputs) zero kind fit is = subst (λ (k 
 input_kind (first ∷ kinds) (comps ∷ inputs) (suc slot) kind fit is = input_kind kinds inputs slot kind fit.1 is
 
 -- what an opcode makes of values that are known
-sources_fit : (body : Nodes) (values : Values) (srcs : List Src) → ((id : ValueId) → SourceOf srcs id → AreWords (width_bits (width_at body id)) (values id.0)) → SourcesFit (source_sizes body srcs) (map (read values) srcs)
+sources_fit : (body : Nodes) (values : Values) (srcs : List Src) → ((id : ValueId) → SourceOf srcs id → AreWords (width_bits (width_at body id)) (values id.0)) → SourcesFit (source_sizes (kind_at body) srcs) (map (read values) srcs)
 sources_fit body values [] h = tt
 sources_fit body values (src ∷ srcs) h = (
   are_words-map (width_bits (width_at body src.value)) (λ c. slice_index (values src.value.0) c) src.swizzle (h src.value (0, refl)),
@@ -83,7 +83,7 @@ made_kind : (s : Shader) (inputs : List (List ℕ)) (repeats : ℕ) (instr : Ins
     → KindOf (kind_of_target instr) (value_of (setting s inputs repeats) instr state)
 unfolding alu_mean
 made_kind s inputs repeats (Alu id op kind srcs) set state given shaped fits reads known =
-    view_kind op kind (source_sizes s.body srcs) (map (λ src. length src.swizzle) srcs) (map (read state.values) srcs) fits.widths fits.counts
+    view_kind op kind (source_sizes (kind_at s.body) srcs) (map (λ src. length src.swizzle) srcs) (map (read state.values) srcs) fits.widths fits.counts
     (sources_fit s.body state.values srcs (λ source at. known_words s set state source known (reads source at)))
 made_kind s inputs repeats (Const id kind comps) set state given shaped fits reads known =
     record { count = shaped.1.count; words = words_all (width_bits kind.width) comps shaped.1.words }
@@ -110,7 +110,7 @@ world_holds s (Input id kind slot) state hold = hold
 world_holds s (Output effect slot src) state hold = hold
 world_holds s (LoadBuf id kind buffer offset) state hold = hold
 world_holds s (StoreBuf effect buffer offset src) state hold =
-    store_holds (record { buffer = buffer; offset = scalar state.values offset; kind = kind_of s.body src; comps = state.values src.0 }) state.world hold
+    store_holds (record { buffer = buffer; offset = scalar state.values offset; kind = kind_of s.kinds src; comps = state.values src.0 }) state.world hold
 
 -- the equation of a value of a closed set goes on where no value of the set changes
 equation_kept : (body : Nodes) (set : Set) (f g : Values) (value : ValueId) (instr : Instr) → Closed body set → ((n : ℕ) → set n ≡ true → f n ≡ g n) → set value.0 ≡ true
@@ -192,7 +192,7 @@ known-next s inputs repeats instr set state shaped given fits reads defines new 
       let kind = kind_of_target-found instr id is in
       known_value s.body set instr id kind.0 comps state.values is (defines id is) kind.1 (new id is) reads
       (subst (λ (found : Option ValueId). Closed s.body (with_member found set)) is (closed-next s.body set instr reads defines known.values.closed))
-      (Equation-value (setting s inputs repeats) instr state)
+      (Equation-value s.body inputs repeats instr state)
       (value_kind s inputs repeats instr set state id kind.0 shaped given fits reads known (defines id is) kind.1)
       known.values
 

@@ -15,7 +15,7 @@ use Rattle.nir_mean.specs.Values.{Values, alu_mean}
 
 -- the value of what an opcode or a const writes
 abbrev pub Equation : Nodes → Values → Instr → List ℕ → Type 0
-Equation body values (Alu id op kind srcs) comps = comps ≡ alu_mean body op kind srcs values
+Equation body values (Alu id op kind srcs) comps = comps ≡ alu_mean (kind_at body) op kind srcs values
 Equation body values (Const id kind list) comps = comps ≡ list
 Equation body values (Undef id kind) comps = Unit {0}
 Equation body values (Input id kind slot) comps = Unit {0}

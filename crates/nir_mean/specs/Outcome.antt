@@ -1,5 +1,6 @@
 -- The outcome of a shader for inputs, contents of buffers and a number of repeats: how it ends, the stores that it made, and its outputs.
 use Rattle.std.specs.Prelude.{ℕ, List, [], map, None}
+use Rattle.nir_ir.specs.Definitions.{kind_at}
 use Rattle.nir_ir.specs.Shader.{Shader}
 use Rattle.nir_mean.specs.declared.outcome.Ending.{Ending}
 use Rattle.nir_mean.specs.declared.outcome.Ending.TheVariants.{Done, Cut}
@@ -23,7 +24,7 @@ outcome_of (run.Continue from state) = told Done state.world
 outcome_of (run.Cut state) = told Cut state.world
 
 abbrev pub setting : Shader → List (List ℕ) → ℕ → Setting
-setting s inputs repeats = record { body = s.body; inputs = inputs; repeats = repeats }
+setting s inputs repeats = record { kinds = kind_at s.body; inputs = inputs; repeats = repeats }
 
 unfoldable pub outcome : Shader → List (List ℕ) → List (List ℕ) → ℕ → Outcome
 outcome s inputs buffers repeats = outcome_of (run_list (setting s inputs repeats) s.body None (start s buffers))

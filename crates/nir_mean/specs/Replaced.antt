@@ -45,19 +45,19 @@ pub record Alike (fresh : Set) (f g : State) : Type 0 where
 abbrev pub ReadsNone : Set → Instr → Type 0
 ReadsNone set instr = (id : ValueId) → IsRead instr id → set id.0 ≡ false
 
--- values that are not fresh have the same kinds in both bodies
-abbrev pub KindsStay : Set → Nodes → Nodes → Type 0
-KindsStay fresh body other = (id : ValueId) → fresh id.0 ≡ false → kind_at body id ≡ kind_at other id
+-- values that are not fresh have the same kinds
+abbrev pub KindsStay : Set → Kinds → Kinds → Type 0
+KindsStay fresh kinds other = (id : ValueId) → fresh id.0 ≡ false → kinds id ≡ other id
 
 with_target-alike : (found : Option ValueId) (a b : List ℕ) (f g : Values) (n : ℕ) → a ≡ b → f n ≡ g n → with_target found a f n ≡ with_target found b g n
 with_target-alike None a b f g n same agree = agree
 with_target-alike (Some id) a b f g n same agree = ap (λ comps. cond (nat_eq n id.0) comps (f n)) same ∙ ap (cond (nat_eq n id.0) b) agree
 
 -- an instruction that reads no fresh value keeps states alike
-pub run_instr-alike : (s t : Setting) (fresh : Set) (instr : Instr) (f g : State) → s.inputs ≡ t.inputs → KindsStay fresh s.body t.body → ReadsNone fresh instr
+pub run_instr-alike : (s t : Setting) (fresh : Set) (instr : Instr) (f g : State) → s.inputs ≡ t.inputs → KindsStay fresh s.kinds t.kinds → ReadsNone fresh instr
     → Alike fresh f g → Alike fresh (run_instr s instr f) (run_instr t instr g)
 run_instr-alike s t fresh instr f g inputs kinds reads alike =
-    let same_kinds : SameKinds s.body t.body instr = λ id at. kinds id (reads id at) in
+    let same_kinds : SameKinds s.kinds t.kinds instr = λ id at. kinds id (reads id at) in
     let made : value_of s instr f ≡ value_of t instr g = value_of-same s t instr f g inputs same_kinds (λ id at. alike.values id.0 (reads id at)) alike.world in
     record {
       values = λ n old. with_target-alike (target instr) (value_of s instr f) (value_of t instr g) f.values g.values n made (alike.values n old);
@@ -79,7 +79,7 @@ Follows s t fresh old news inputs repeats =
 
 -- both blocks end in states that are alike
 pub simulate : (s t : Shader) (fresh : Set) (value : ValueId) (old : Instr) (news : List Instr) (inputs : List (List ℕ)) (repeats : ℕ)
-    → IsShaped s → InputsFit s.inputs inputs → instr_defining value s.body ≡ Some old → KindsStay fresh s.body t.body → Follows s t fresh old news inputs repeats
+    → IsShaped s → InputsFit s.inputs inputs → instr_defining value s.body ≡ Some old → KindsStay fresh (kind_at s.body) (kind_at t.body) → Follows s t fresh old news inputs repeats
     → (list : List Instr) (set : Set) (f g : State) → InstrsValid s set list → IsLeft s.body set list → AllByRecursion (ReadsNone fresh) list → KnownAt s set f → Alike fresh f g
     → Alike fresh (run_instrs (setting s inputs repeats) list f) (run_instrs (setting t inputs repeats) (flat_map (in_place_of value news) list) g)
 simulate s t fresh value old news inputs repeats shaped given defined kinds follows [] set f g valid left unread known alike = alike
@@ -128,7 +128,7 @@ only_instrs b = instrs-BlockThen b Nil ∙ append-nil b.instrs
 -- two shaders of one block, of which the second has new instructions in the place of one
 pub same_block : (s t : Shader) (fresh : Set) (value : ValueId) (old : Instr) (news : List Instr)
     → s.inputs ≡ t.inputs → s.outputs ≡ t.outputs → s.buffers ≡ t.buffers → t.body ≡ replaced value news s.body
-    → IsShaped s → ValidBlock s → instr_defining value s.body ≡ Some old → KindsStay fresh s.body t.body → AllByRecursion (ReadsNone fresh) (instrs s.body)
+    → IsShaped s → ValidBlock s → instr_defining value s.body ≡ Some old → KindsStay fresh (kind_at s.body) (kind_at t.body) → AllByRecursion (ReadsNone fresh) (instrs s.body)
     → ((inputs : List (List ℕ)) (repeats : ℕ) → InputsFit s.inputs inputs → Follows s t fresh old news inputs repeats)
     → Same s t
 unfolding outcome
@@ -213,7 +213,7 @@ pub same_replaced : (s : Shader) (value : ValueId) (old new : Instr) → IsShape
 same_replaced s value old new shaped valid place same =
     same_block s (with_instr value new s) no_values value old (new ∷ []) refl refl refl refl shaped valid place.defined kinds (all_read_none (instrs s.body)) follows
   where
-    kinds : KindsStay no_values s.body (replaced value (new ∷ []) s.body)
+    kinds : KindsStay no_values (kind_at s.body) (kind_at (replaced value (new ∷ []) s.body))
     kinds id _ = sym (kind_at-replaced value old new s.body place.defined place.target place.kind id)
 
     follows : (inputs : List (List ℕ)) (repeats : ℕ) → InputsFit s.inputs inputs → Follows s (with_instr value new s) no_values old (new ∷ []) inputs repeats

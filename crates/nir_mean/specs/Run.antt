@@ -1,7 +1,7 @@
 -- The run of a shader's lists: each node from the block that control came from, with at most so many repeats of a loop for each time that it is entered.
 use Rattle.std.specs.Prelude.{ℕ, zero, suc, Bool, cond, nat_eq, List, [], ◌∷◌, Option, Some, None, slice_index}
-use Rattle.std.specs.List.{find, list_any, slice_index_or}
-use Rattle.std.specs.Option.{option_map_or, option_to_list, unwrap_or}
+use Rattle.std.specs.List.{find, slice_index_or}
+use Rattle.std.specs.Option.{option_map_or, unwrap_or}
 use Rattle.nir_ops.specs.declared.width.Width.TheVariants.{W1}
 use Rattle.nir_ir.specs.declared.ids.BlockId.{BlockId}
 use Rattle.nir_ir.specs.declared.ids.ValueId.{ValueId}
@@ -12,16 +12,15 @@ use Rattle.nir_ir.specs.declared.node.Block.{Block}
 use Rattle.nir_ir.specs.declared.node.Jump.{Jump}
 use Rattle.nir_ir.specs.declared.node.Jump.TheVariants as jump
 use Rattle.nir_ir.specs.declared.node.Phi.{Phi}
-use Rattle.nir_ir.specs.declared.node.PhiSource.{PhiSource}
-use Rattle.nir_ir.specs.Definitions.{kind_at}
+use Rattle.nir_ir.specs.Definitions.{Kinds, is_from}
 use Rattle.nir_ir.specs.Items.{target}
 use Rattle.nir_ir.specs.Nodes.{Nodes, Nil, BlockThen, IfThen, LoopThen}
 use Rattle.nir_mean.specs.State.{State, World, load, put_out, store, with_target, zeros}
 use Rattle.nir_mean.specs.Values.{Values, alu_mean}
 
--- what a run is given: the body, whose kinds are those of the values, the components of each input, and the number of repeats
+-- what a run is given: the kinds of the values, the components of each input, and the number of repeats
 pub record Setting : Type 0 where
-  pub body : Nodes
+  pub kinds : Kinds
   pub inputs : List (List ℕ)
   pub repeats : ℕ
 
@@ -30,12 +29,12 @@ abbrev pub scalar : Values → ValueId → ℕ
 scalar values id = slice_index (values id.0) 0
 
 -- the kind of a stored value; each value that is used is defined
-abbrev pub kind_of : Nodes → ValueId → Kind
-kind_of body id = unwrap_or (kind_at body id) (record { width = W1; count = 0 })
+abbrev pub kind_of : Kinds → ValueId → Kind
+kind_of kinds id = unwrap_or (kinds id) (record { width = W1; count = 0 })
 
 -- what an instruction makes for its target
 abbrev pub value_of : Setting → Instr → State → List ℕ
-value_of s (Alu id op kind srcs) state = alu_mean s.body op kind srcs state.values
+value_of s (Alu id op kind srcs) state = alu_mean s.kinds op kind srcs state.values
 value_of s (Const id kind comps) state = comps
 value_of s (Undef id kind) state = zeros kind
 value_of s (Input id kind slot) state = slice_index_or s.inputs slot []
@@ -52,7 +51,7 @@ world_of s (Input id kind slot) state = state.world
 world_of s (Output effect slot src) state = put_out slot (state.values src.0) state.world
 world_of s (LoadBuf id kind buffer offset) state = state.world
 world_of s (StoreBuf effect buffer offset src) state =
-    store (record { buffer = buffer; offset = scalar state.values offset; kind = kind_of s.body src; comps = state.values src.0 }) state.world
+    store (record { buffer = buffer; offset = scalar state.values offset; kind = kind_of s.kinds src; comps = state.values src.0 }) state.world
 
 abbrev pub run_instr : Setting → Instr → State → State
 run_instr s instr state = record { values = with_target (target instr) (value_of s instr state) state.values; world = world_of s instr state }
@@ -61,13 +60,9 @@ abbrev pub run_instrs : Setting → List Instr → State → State
 run_instrs s [] state = state
 run_instrs s (instr ∷ instrs) state = run_instrs s instrs (run_instr s instr state)
 
--- whether a phi's source is the one for the block that control came from; none is the entry of the shader
-abbrev pub comes_from : Option BlockId → PhiSource → Bool
-comes_from from source = list_any (λ id. nat_eq id.0 source.from.0) (option_to_list from)
-
--- what a phi takes
+-- what a phi takes: the value of its source for the block that control came from
 abbrev pub phi_value : Option BlockId → Values → Phi → List ℕ
-phi_value from values phi = option_map_or (λ source. values source.value.0) (find (comes_from from) phi.sources) (zeros phi.kind)
+phi_value from values phi = option_map_or (λ source. values source.value.0) (find (is_from from) phi.sources) (zeros phi.kind)
 
 -- all phis of a block read together
 abbrev pub run_phis : Option BlockId → List Phi → Values → Values

@@ -5,6 +5,7 @@ use Rattle.nir_ops.specs.declared.width.Width.TheVariants.{W1}
 use Rattle.op_eval.specs.declared.view.View.{View}
 use Rattle.nir_ir.specs.declared.ids.ValueId.{ValueId}
 use Rattle.nir_ir.specs.declared.kind.Kind.{Kind}
+use Rattle.nir_ir.specs.Definitions.{kind_at}
 use Rattle.nir_ir.specs.Shader.{Shader}
 use Rattle.nir_mean.specs.Run.{kind_of}
 use Rattle.nir_mean.specs.Values.{Values}
@@ -23,4 +24,4 @@ kinds_of table n = option_map_or kind_seen (slice_get table n) (record { width =
 -- the table is one of this shader: each number has the kind of its value
 pub record IsTable (s : Shader) (table : List View) : Type 0 where
   pub whole : length table ≡ s.next_value
-  pub kinds : (id : ValueId) → kinds_of table id.0 ≡ kind_of s.body id
+  pub kinds : (id : ValueId) → kinds_of table id.0 ≡ kind_of (kind_at s.body) id

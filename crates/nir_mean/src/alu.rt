@@ -28,7 +28,7 @@ pub(crate) fn alu_view(
     requires fits { AluFits (kind_at (shader_of given.now).body) op kind srcs.now }
     requires few { kind.count ≤ 16 }
     ensures kind { IfOk result (λ view. kind_seen view ≡ kind) }
-    ensures value { IfOk result (λ view. view.comps ≡ alu_mean (shader_of given.now).body op kind srcs.now (values_of table.now.views)) }
+    ensures value { IfOk result (λ view. view.comps ≡ alu_mean (kind_at (shader_of given.now).body) op kind srcs.now (values_of table.now.views)) }
 {
     table.read_all(srcs, room)?;
     let mut out = zero_view(kind);

@@ -52,7 +52,7 @@ impl Machine {
     ) -> Result<(), OutOfMemory>
         requires table { IsTable (shader_of given.now) self.old.table.views }
         requires offset { kind_at (shader_of given.now).body offset ≡ Some offset_kind }
-        ensures state { OnOk result (state_of self.new ≡ record (state_of self.old) { world = store (record { buffer = buffer; offset = scalar (values_of self.old.table.views) offset; kind = kind_of (shader_of given.now).body src; comps = values_of self.old.table.views src.0 }) (world_seen self.old.outside) }) }
+        ensures state { OnOk result (state_of self.new ≡ record (state_of self.old) { world = store (record { buffer = buffer; offset = scalar (values_of self.old.table.views) offset; kind = kind_of (kind_at (shader_of given.now).body) src; comps = values_of self.old.table.views src.0 }) (world_seen self.old.outside) }) }
         ensures table { OnOk result (self.new.table.views ≡ self.old.table.views) }
     {
         let made = Stored {

@@ -5,7 +5,8 @@ ghost use Rattle.std.specs.List.{AllByRecursion, find};
 ghost use Rattle.std.specs.Option.{option_map};
 ghost use Rattle.op_eval.specs.Views.{views_comps};
 ghost use Rattle.nir_mean.specs.Phis.{written};
-ghost use Rattle.nir_mean.specs.Run.{comes_from, phi_value, run_phis};
+ghost use Rattle.nir_ir.specs.Definitions.{is_from};
+ghost use Rattle.nir_mean.specs.Run.{phi_value, run_phis};
 ghost use Rattle.nir_mean.specs.Seen.{shader_of};
 ghost use Rattle.nir_mean.specs.Sound.{PhiSound};
 ghost use Rattle.nir_mean.specs.Table.{IsTable, kind_seen, values_of};
@@ -19,7 +20,7 @@ use op_eval::View;
 
 /// Whether a source is the one for the block that control came from.
 fn comes_from(from: Option<BlockId>, source: &PhiSource) -> bool
-    ensures { result ≡ comes_from from source.now }
+    ensures { result ≡ is_from from source.now }
 {
     match from {
         Some(id) => id.0 == source.from.0,
@@ -29,7 +30,7 @@ fn comes_from(from: Option<BlockId>, source: &PhiSource) -> bool
 
 /// The value that a phi with these sources takes.
 fn taken(from: Option<BlockId>, sources: &[PhiSource]) -> Option<ValueId>
-    ensures { result ≡ option_map (λ source. source.value) (find (comes_from from) sources.now) }
+    ensures { result ≡ option_map (λ source. source.value) (find (is_from from) sources.now) }
 {
     for source in sources {
         if comes_from(from, source) {

@@ -16,7 +16,8 @@ use Rattle.nir_ir.specs.declared.instr.Src.{Src}
 use Rattle.nir_ir.specs.declared.kind.Kind.{Kind}
 use Rattle.nir_ir.specs.declared.node.Phi.{Phi}
 use Rattle.nir_ir.specs.declared.node.PhiSource.{PhiSource}
-use Rattle.nir_ir.specs.Definitions.{alu_of}
+pub use Rattle.nir_ir.specs.Definitions.{Kinds, width_in}
+use Rattle.nir_ir.specs.Definitions.{alu_of, is_from}
 use Rattle.nir_ir.specs.Items.{Item, BlockHead, PhiItem, InstrItem, JumpItem, IfHead, LoopHead, block_items, items, reads}
 use Rattle.nir_ir.specs.Nodes.{Nodes, Nil, BlockThen, IfThen, LoopThen}
 use Rattle.nir_ir.specs.Shader.{Shader}
@@ -25,13 +26,6 @@ use Rattle.nir_validate.specs.Walk.{Visit, is_empty}
 
 abbrev pub same_kind : Kind → Kind → Bool
 same_kind a b = same_width a.width b.width && nat_eq a.count b.count
-
--- the kinds of values, where they are defined
-abbrev pub Kinds : Type 0
-Kinds = ValueId → Option Kind
-
-abbrev pub width_in : Kinds → ValueId → Width
-width_in kinds id = option_map_or (λ kind. kind.width) (kinds id) W1
 
 abbrev pub count_in : Kinds → ValueId → ℕ
 count_in kinds id = option_map_or (λ kind. kind.count) (kinds id) 0
@@ -216,7 +210,7 @@ sources_match visit = match_in visit.item visit.edges
 
 -- V7: each used value is defined on every path to its user, and each source of a phi on every path along its edge
 abbrev pub comes_from : PhiSource → Edge → Bool
-comes_from source edge = list_any (λ id. nat_eq id.0 source.from.0) (option_to_list edge.from)
+comes_from source edge = is_from edge.from source
 
 abbrev pub is_defined_along : List Edge → PhiSource → Bool
 is_defined_along edges source = list_all (λ edge. not (comes_from source edge) || edge.set source.value.0) edges

@@ -10,7 +10,7 @@ use Rattle.nir_ir.specs.declared.ids.BlockId.{BlockId}
 use Rattle.nir_ir.specs.declared.node.PhiSource.{PhiSource}
 use Rattle.nir_ir.specs.Shaped.{IsOneOf}
 use Rattle.nir_mean.specs.Renamed.{IsNamed}
-use Rattle.nir_mean.specs.Run.{comes_from}
+use Rattle.nir_ir.specs.Definitions.{is_from}
 use Rattle.nir_print.specs.BlockGroups.{groups}
 use Rattle.nir_print.specs.Naming.{block_place, in_block_order, place}
 use Rattle.nir_print.specs.Renumber.{Numbers, new_block, new_phi_source}
@@ -103,26 +103,26 @@ nat_eq-swap m n = by (nat_eq n m) refl where
   by false e = ne_eqb m n (λ same. eqb-false n m e (sym same))
 
 -- from the entry no source is taken
-none-comes : (list : List PhiSource) → find (comes_from None) list ≡ None
+none-comes : (list : List PhiSource) → find (is_from None) list ≡ None
 none-comes [] = refl
 none-comes (source ∷ list) = none-comes list
 
 -- the source that is taken is the same one, under other numbers
 pub taken-renumbered : (numbers : Numbers) (from : Option BlockId) (sources : List PhiSource) → IsNamed numbers.naming.blocks from
     → AllByRecursion (λ source. IsOneOf numbers.naming.blocks source.from.0) sources
-    → find (comes_from (option_map (new_block numbers) from)) (map (new_phi_source numbers) (in_block_order numbers.naming sources))
-    ≡ option_map (new_phi_source numbers) (find (comes_from from) sources)
+    → find (is_from (option_map (new_block numbers) from)) (map (new_phi_source numbers) (in_block_order numbers.naming sources))
+    ≡ option_map (new_phi_source numbers) (find (is_from from) sources)
 taken-renumbered numbers None sources named all =
     none-comes (map (new_phi_source numbers) (in_block_order numbers.naming sources)) ∙ ap (option_map (new_phi_source numbers)) (sym (none-comes sources))
 taken-renumbered numbers (Some id) sources named all =
-    find_renamed (new_phi_source numbers) (has key (key_of id)) (comes_from (Some (new_block numbers id))) (in_block_order numbers.naming sources)
-    (all_of (λ source. comes_from (Some (new_block numbers id)) (new_phi_source numbers source) ≡ has key (key_of id) source)
+    find_renamed (new_phi_source numbers) (has key (key_of id)) (is_from (Some (new_block numbers id))) (in_block_order numbers.naming sources)
+    (all_of (λ source. is_from (Some (new_block numbers id)) (new_phi_source numbers source) ≡ has key (key_of id) source)
     (λ source. or_false (nat_eq (key_of id) (key source)) ∙ nat_eq-swap (key_of id) (key source))
     (in_block_order numbers.naming sources))
     ∙ ap (option_map (new_phi_source numbers))
     (find-groups key (key_of id) sources 0 (length numbers.naming.blocks + 1) (omega arith) within
-    ∙ find-same_test (has key (key_of id)) (comes_from (Some id)) sources
-    (all_each (λ source. IsOneOf numbers.naming.blocks source.from.0) (λ source. has key (key_of id) source ≡ comes_from (Some id) source) same sources all))
+    ∙ find-same_test (has key (key_of id)) (is_from (Some id)) sources
+    (all_each (λ source. IsOneOf numbers.naming.blocks source.from.0) (λ source. has key (key_of id) source ≡ is_from (Some id) source) same sources all))
   where
     key_of : BlockId → ℕ
     key_of block = block_place numbers.naming block
@@ -133,7 +133,7 @@ taken-renumbered numbers (Some id) sources named all =
     within : key_of id < 0 + (length numbers.naming.blocks + 1)
     within = let below : place numbers.naming.blocks id.0 < length numbers.naming.blocks = place-below numbers.naming.blocks id.0 named in omega arith
 
-    same : (source : PhiSource) → IsOneOf numbers.naming.blocks source.from.0 → has key (key_of id) source ≡ comes_from (Some id) source
+    same : (source : PhiSource) → IsOneOf numbers.naming.blocks source.from.0 → has key (key_of id) source ≡ is_from (Some id) source
     same source is =
         place-same numbers.naming.blocks source.from.0 id.0 is named
         ∙ nat_eq-swap source.from.0 id.0

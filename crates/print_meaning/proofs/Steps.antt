@@ -20,7 +20,7 @@ use Rattle.nir_ir.specs.Definitions.{kind_at}
 use Rattle.nir_ir.specs.Items.{reads, target}
 use Rattle.nir_ir.specs.Shaped.{IsOneOf}
 use Rattle.nir_mean.specs.Renamed.{IsNamed, KeepsApart, Renaming, SameState, SameValues, run_instr-same}
-use Rattle.nir_mean.specs.Run.{Setting, comes_from, phi_value, run_instr, run_instrs, run_phis, value_of, world_of}
+use Rattle.nir_mean.specs.Run.{Setting, phi_value, run_instr, run_instrs, run_phis, value_of, world_of}
 use Rattle.nir_mean.specs.State.{State, load, put_out, store, zeros}
 use Rattle.nir_mean.specs.Values.{Values, alu_mean, read, source_sizes}
 use Rattle.nir_print.specs.Naming.{place}
@@ -53,12 +53,12 @@ phi_value-renumbered : (numbers : Numbers) (last : Option BlockId) (phi : Phi) (
     → phi_value (option_map (new_block numbers) last) g (new_phi numbers phi) ≡ phi_value last f phi
 phi_value-renumbered numbers last phi f g named parts same =
     ap (λ found. option_map_or (λ source. g source.value.0) found (zeros phi.kind)) (taken-renumbered numbers last phi.sources named parts.blocks)
-    ∙ by (find (comes_from last) phi.sources) refl
+    ∙ by (find (is_from last) phi.sources) refl
   where
-    by : (found : Option PhiSource) → find (comes_from last) phi.sources ≡ found
+    by : (found : Option PhiSource) → find (is_from last) phi.sources ≡ found
         → option_map_or (λ source. g source.value.0) (option_map (new_phi_source numbers) found) (zeros phi.kind) ≡ option_map_or (λ source. f source.value.0) found (zeros phi.kind)
     by None e = refl
-    by (Some source) e = same source.value.0 (found_holds (λ s. IsOneOf numbers.naming.values s.value.0) (comes_from last) phi.sources source parts.read e)
+    by (Some source) e = same source.value.0 (found_holds (λ s. IsOneOf numbers.naming.values s.value.0) (is_from last) phi.sources source parts.read e)
 
 pub run_phis-renumbered : (numbers : Numbers) (last : Option BlockId) (phis : List Phi) (f g : Values) → IsNamed numbers.naming.blocks last → AllByRecursion (PhiNamed numbers) phis
     → SameValues (by_places numbers) f g → SameValues (by_places numbers) (run_phis last phis f) (run_phis (option_map (new_block numbers) last) (map (new_phi numbers) phis) g)
@@ -81,7 +81,7 @@ run_phis-renumbered numbers last phis f g named all same n is =
 
 -- settings of the same inputs and repeats, in which each named value has its kind under its new number
 pub record SameSetting (numbers : Numbers) (s t : Setting) : Type 0 where
-  pub kinds : (value : ValueId) → IsOneOf numbers.naming.values value.0 → kind_at t.body (new_value numbers value) ≡ kind_at s.body value
+  pub kinds : (value : ValueId) → IsOneOf numbers.naming.values value.0 → t.kinds (new_value numbers value) ≡ s.kinds value
   pub given : t.inputs ≡ s.inputs
   pub turns : t.repeats ≡ s.repeats
 
@@ -98,13 +98,13 @@ sources-renumbered numbers [] f g named same = refl
 sources-renumbered numbers (src ∷ srcs) f g named same =
     λ i. map (λ c. slice_index (same src.value.0 named.0 i) c) src.swizzle ∷ sources-renumbered numbers srcs f g named.1 same i
 
-sizes-renumbered : (numbers : Numbers) (s t : Setting) (srcs : List Src) → AreNamed numbers srcs → SameSetting numbers s t → source_sizes t.body (map (new_src numbers) srcs) ≡ source_sizes s.body srcs
+sizes-renumbered : (numbers : Numbers) (s t : Setting) (srcs : List Src) → AreNamed numbers srcs → SameSetting numbers s t → source_sizes t.kinds (map (new_src numbers) srcs) ≡ source_sizes s.kinds srcs
 sizes-renumbered numbers s t [] named setting = refl
 sizes-renumbered numbers s t (src ∷ srcs) named setting =
     λ i. option_map_or (λ kind. kind.width) (setting.kinds src.value named.0 i) W1 ∷ sizes-renumbered numbers s t srcs named.1 setting i
 
 alu_mean-renumbered : (numbers : Numbers) (s t : Setting) (op : Op) (kind : Kind) (srcs : List Src) (f g : Values) → AreNamed numbers srcs → SameSetting numbers s t → SameValues (by_places numbers) f g
-    → alu_mean t.body op kind (map (new_src numbers) srcs) g ≡ alu_mean s.body op kind srcs f
+    → alu_mean t.kinds op kind (map (new_src numbers) srcs) g ≡ alu_mean s.kinds op kind srcs f
 unfolding alu_mean
 alu_mean-renumbered numbers s t op kind srcs f g named setting same =
     λ i. view_mean op (width_bits (unsized_width op kind.width (sizes-renumbered numbers s t srcs named setting i))) (width_bits kind.width) kind.count (sources-renumbered numbers srcs f g named same i)

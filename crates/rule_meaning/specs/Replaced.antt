@@ -51,10 +51,10 @@ unfolding op_mean meaning residue
 mov_mean x small = mod-eq_of_lt small
 
 -- an opcode that works place by place makes as many components as its kind says
-pub length-alu_mean : (body : Nodes) (op : Op) (kind : Kind) (srcs : List Src) (values : Values) → shape_of op ≡ EachPlace → length (alu_mean body op kind srcs values) ≡ kind.count
+pub length-alu_mean : (body : Nodes) (op : Op) (kind : Kind) (srcs : List Src) (values : Values) → shape_of op ≡ EachPlace → length (alu_mean (kind_at body) op kind srcs values) ≡ kind.count
 unfolding alu_mean view_mean
 length-alu_mean body op kind srcs values shape =
-    let w = width_bits (unsized_width op kind.width (source_sizes body srcs)) in
+    let w = width_bits (unsized_width op kind.width (source_sizes (kind_at body) srcs)) in
     let d = width_bits kind.width in
     let args = map (read values) srcs in
     ap (λ s. length (shape_mean s op w d kind.count args)) shape
@@ -117,11 +117,11 @@ module _ (s : Shader) (rule : Rule) (variant : ℕ) (value : ValueId) (kind : Ki
         ∙ sym (env_at var place var_below)
         ∙ ap (λ l. slice_index l 0) (sym (ap (λ t. values_of t (replicate (size_of t) W8) (env binds values place)) is) ∙ replace_value equal place within)
 
-    pub put_variable : alu_mean s.body Mov kind (view_source (bound_to binds var) ∷ []) values ≡ values value.0
+    pub put_variable : alu_mean (kind_at s.body) Mov kind (view_source (bound_to binds var) ∷ []) values ≡ values value.0
     put_variable =
         let srcs = view_source (bound_to binds var) ∷ [] in
         let long = length-alu_mean s.body Mov kind srcs values shape-Mov in
-        ext_get_or 0 (alu_mean s.body Mov kind srcs values) (values value.0) (long ∙ sym has_kind.count)
+        ext_get_or 0 (alu_mean (kind_at s.body) Mov kind srcs values) (values value.0) (long ∙ sym has_kind.count)
         (λ place less.
         let within : place < kind.count = subst (λ n. place < n) long less in
         alu_mean_eight s.body Mov kind srcs values place shape-Mov mov_unsized (match_width s rule variant value kind binds set values h) within

@@ -92,7 +92,7 @@ module _ (s : Shader) (rule : Rule) (variant : ℕ) (value : ValueId) (kind : Ki
       → value_of (setting s inputs repeats) (leaf_instr binds value (component_count s.body value) leaf) (record { values = values; world = world }) ≡ values value.0
   leaf_value inputs repeats world Nil is leaf = absurd (false≢true leaf)
   leaf_value inputs repeats world (VarThen var constant size cond rest) is leaf =
-      ap (λ k. alu_mean s.body Mov k (view_source (bound_to binds var) ∷ []) values) kind_same
+      ap (λ k. alu_mean (kind_at s.body) Mov k (view_source (bound_to binds var) ∷ []) values) kind_same
       ∙ put_variable s rule variant value kind binds set values h var constant size cond rest is equal
   leaf_value inputs repeats world (LitThen number boolean rest) is leaf =
       ap (λ n. replicate n (residue 8 number)) (root_count s rule variant value kind binds set values h)

@@ -47,7 +47,7 @@ values (suc zero) = 0 ∷ 0 ∷ []
 values (suc (suc n)) = 5 ∷ 0 ∷ []
 
 -- the sum has these components
-sum_is : alu_mean body Iadd pair sources values ≡ values 2
+sum_is : alu_mean (kind_at body) Iadd pair sources values ≡ values 2
 unfolding alu_mean view_mean shape_of op_mean meaning residue unsized_width op_info row_of
 sum_is = refl
 

@@ -143,11 +143,11 @@ each_mean op w d count place args shape within =
 
 -- at 8 bits an opcode without sizes of its own works at 8 bits
 pub alu_mean_eight : (body : Nodes) (op : Op) (kind : Kind) (srcs : List Src) (values : Values) (place : ℕ) → shape_of op ≡ EachPlace → is_unsized op ≡ true → kind.width ≡ W8 → place < kind.count
-    → slice_index (alu_mean body op kind srcs values) place ≡ op_mean op 8 8 (column place (map (read values) srcs))
+    → slice_index (alu_mean (kind_at body) op kind srcs values) place ≡ op_mean op 8 8 (column place (map (read values) srcs))
 unfolding alu_mean
 alu_mean_eight body op kind srcs values place shape unsized eight within =
     let args = map (read values) srcs in
-    let own : unsized_width op kind.width (source_sizes body srcs) ≡ W8 = ap (λ w. unsized_width op w (source_sizes body srcs)) eight ∙ (one_size op W8 unsized).unsized (source_sizes body srcs) in
+    let own : unsized_width op kind.width (source_sizes (kind_at body) srcs) ≡ W8 = ap (λ w. unsized_width op w (source_sizes (kind_at body) srcs)) eight ∙ (one_size op W8 unsized).unsized (source_sizes (kind_at body) srcs) in
     ap (λ w. slice_index (view_mean op (width_bits w) (width_bits kind.width) kind.count args) place) own
     ∙ ap (λ w. slice_index (view_mean op 8 (width_bits w) kind.count args) place) eight
     ∙ each_mean op 8 8 kind.count place args shape within
