@@ -60,7 +60,13 @@ fn sizes(alloc: Global, width: Width, count: usize) -> Result<Widths, OutOfMemor
 }
 
 /// The trial of a rule of these two sides.
-fn trial(search: Term, replace: Term, vars: u32, widths: Widths) -> Trial
+fn trial(
+    alloc: Global,
+    search: Term,
+    replace: Term,
+    vars: u32,
+    widths: Widths,
+) -> Result<Trial, OutOfMemory>
     requires formed { IsFormed (record { number = 0; search = terms_of (search ∷ []); replace = terms_of (replace ∷ []); when = When.Always; vars = vars }) }
     requires typing { is_typing (record { number = 0; search = terms_of (search ∷ []); replace = terms_of (replace ∷ []); when = When.Always; vars = vars }) widths ≡ true }
 {
@@ -71,7 +77,7 @@ fn trial(search: Term, replace: Term, vars: u32, widths: Widths) -> Trial
         when: When::Always,
         vars,
     };
-    try_cases(&rule, &Typing { widths })
+    try_cases(alloc, &rule, &Typing { widths })
 }
 
 /// a - b to a.
@@ -82,12 +88,13 @@ fn difference(alloc: Global) -> Result<Trial, OutOfMemory> {
         variable(0, Some(Width::W8), None),
         variable(1, None, None),
     )?;
-    Ok(trial(
+    trial(
+        alloc,
         search,
         variable(0, None, None),
         2,
         sizes(alloc, Width::W8, 4)?,
-    ))
+    )
 }
 
 /// a + 0 to a.
@@ -98,12 +105,13 @@ fn zero(alloc: Global) -> Result<Trial, OutOfMemory> {
         variable(0, Some(Width::W8), None),
         number(0),
     )?;
-    Ok(trial(
+    trial(
+        alloc,
         search,
         variable(0, None, None),
         1,
         sizes(alloc, Width::W8, 4)?,
-    ))
+    )
 }
 
 /// The least of a & b and 254, to a & b.
@@ -121,7 +129,7 @@ fn last(alloc: Global) -> Result<Trial, OutOfMemory> {
         variable(0, None, None),
         variable(1, None, None),
     )?;
-    Ok(trial(search, replace, 2, sizes(alloc, Width::W8, 8)?))
+    trial(alloc, search, replace, 2, sizes(alloc, Width::W8, 8)?)
 }
 
 /// a & 3 to 0, where a is a multiple of 4 or any word.
@@ -132,7 +140,7 @@ fn low_bits(alloc: Global, cond: Option<Cond>) -> Result<Trial, OutOfMemory> {
         variable(0, Some(Width::W8), cond),
         number(3),
     )?;
-    Ok(trial(search, number(0), 1, sizes(alloc, Width::W8, 4)?))
+    trial(alloc, search, number(0), 1, sizes(alloc, Width::W8, 4)?)
 }
 
 /// a & b to b & a at this size.
@@ -149,7 +157,7 @@ fn swapped(alloc: Global, width: Width) -> Result<Trial, OutOfMemory> {
         variable(1, None, None),
         variable(0, None, None),
     )?;
-    Ok(trial(search, replace, 2, sizes(alloc, width, 6)?))
+    trial(alloc, search, replace, 2, sizes(alloc, width, 6)?)
 }
 
 /// Whether these are the first values at which the sides differ.
