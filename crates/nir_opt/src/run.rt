@@ -107,7 +107,7 @@ fn run_in_stages<R: Source, S: Source, K: Sink, N: Sink, L: Ledger>(
         Ok(table) => table,
         Err(status) => return stopped(alloc, notes, status),
     };
-    let built = match read_shader_text(alloc, shader) {
+    let built = match read_shader_text(alloc, &table, shader) {
         Ok(built) => built,
         Err(status) => return stopped(alloc, notes, status),
     };
