@@ -200,8 +200,8 @@ told_ran given_words rules shader out lines ending report stops is kept told =
 read_ran : (given_words : List (List ℕ)) (rules shader : Reading) (out lines : Writing) (ending answer : Status) (report : Report) → has_reading given_words ≡ true
     → Stops given_words rules shader ending → IsToldAs ending answer → report ≡ idle answer → out.taken_after ≡ out.taken_before → Tells lines answer
     → Ran given_words rules shader out lines report
-read_ran given_words rules shader out lines ending answer report reads stops as is kept told =
-    elim as [
+read_ran given_words rules shader out lines ending answer report reads stops becomes is kept told =
+    elim becomes [
       | inl same ↦ told_ran given_words rules shader out lines ending report stops (is ∙ ap idle same) kept (subst (Tells lines) same told)
       | inr memory ↦
           told_ran given_words rules shader out lines OutOfMemory report (memory_stops given_words rules shader reads) (is ∙ ap idle memory.0) kept
@@ -212,8 +212,8 @@ read_ran given_words rules shader out lines ending answer report reads stops as 
 pub ran_without_words : (given_words : List (List ℕ)) (rules shader : Reading) (out lines : Writing) (answer : Status) (report : Report) → has_reading given_words ≡ false
     → rules.left_after ≡ rules.left_before → shader.left_after ≡ shader.left_before → IsToldAs Usage answer → report ≡ idle answer → out.taken_after ≡ out.taken_before
     → Tells lines answer → Ran given_words rules shader out lines report
-ran_without_words given_words rules shader out lines answer report none rules_kept shader_kept as is kept told =
-    elim as [
+ran_without_words given_words rules shader out lines answer report none rules_kept shader_kept becomes is kept told =
+    elim becomes [
       | inl same ↦
           told_ran given_words rules shader out lines Usage report (usage_stops given_words rules shader none rules_kept shader_kept) (is ∙ ap idle same) kept
           (subst (Tells lines) same told)

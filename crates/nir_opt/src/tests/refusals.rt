@@ -1,8 +1,7 @@
 //! Words and texts that are refused, and sources and sinks that fail.
 
-use super::rewriting::REWRITTEN;
+use super::rewriting::{DIFFER, REWRITTEN};
 use super::texts::{DOT, EMPTY_BLOCK, RULE, SIGNED_LEAST, WIDE};
-use super::rewriting::DIFFER;
 use super::validity::BROKEN;
 use super::{Case, NO_RULES, PRINTED, REFUSED, Text, all_end, all_end_unheard, uncounted};
 use nir_host::OutOfMemory;
