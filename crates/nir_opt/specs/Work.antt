@@ -19,10 +19,10 @@ use Rattle.nir_search.specs.Steps.{replay, is_settled}
 use Rattle.nir_search.specs.Weight.{weight_of}
 use Rattle.nir_opt.specs.declared.status.Report.{Report}
 use Rattle.nir_opt.specs.declared.status.Status.{Status}
-use Rattle.nir_opt.specs.declared.status.Status.TheVariants.{OutOfMemory, WriteFault}
+use Rattle.nir_opt.specs.declared.status.Status.TheVariants.{WriteFault}
 use Rattle.nir_opt.specs.declared.status.Status.TheVariants as status
 use Rattle.nir_opt.specs.declared.optimise.Work.{Work}
-use Rattle.nir_opt.specs.Answers.{has_plain_line, place_of, shader_answer}
+use Rattle.nir_opt.specs.Answers.{place_of, shader_answer}
 use Rattle.nir_opt.specs.FirstRules.{first_rules}
 
 -- no option is set
@@ -72,7 +72,3 @@ worked status work = record { status = status; journal = work.journal; rewrites 
 -- the report of no work
 abbrev pub idle : Status → Report
 idle status = record { status = status; journal = []; rewrites = 0; limit = 0; stopped = false; place = place_of status }
-
--- the report of no work with this status; where its line is built, for want of memory for the line with that
-abbrev pub IsTold : Status → Report → Type 0
-IsTold status report = (report ≡ idle status) ⊎ ((report ≡ idle OutOfMemory) × (has_plain_line status ≡ false))
