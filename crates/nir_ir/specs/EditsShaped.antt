@@ -12,8 +12,9 @@ use Rattle.std.proofs.lemmas.Option.{none-some, same_Some}
 use Rattle.std.specs.List.{AllByRecursion, IsDistinct, flat_map, find, list_any}
 use Rattle.std.specs.Option.{option_to_list}
 use Rattle.list_laws.specs.AllLaws.{all_append, all_back, all_front}
-use Rattle.list_laws.specs.BoolLaws.{or_false}
-use Rattle.list_laws.specs.MapLaws.{flat_map-flat_map, flat_map-same, map-append}
+use Rattle.std.proofs.Math.Bool.{or-false}
+use Rattle.std.proofs.lemmas.List.{map-append}
+use Rattle.list_laws.specs.MapLaws.{flat_map-flat_map, flat_map-same}
 use Rattle.nir_ir.specs.declared.ids.ValueId.{ValueId}
 use Rattle.nir_ir.specs.declared.instr.Instr.{Instr}
 use Rattle.nir_ir.specs.declared.instr.Instr.TheVariants.{Alu, Const, Undef, Input, Output, LoadBuf, StoreBuf}
@@ -90,7 +91,7 @@ same_number : (a b : ValueId) → a.0 ≡ b.0 → a ≡ b
 same_number a b e = let id : ℕ → ValueId = λ n. record { 0 = n } in ap id e
 
 same_value : (value id : ValueId) → (nat_eq id.0 value.0 || false) ≡ true → id ≡ value
-same_value value id h = same_number id value (eqb-true id.0 value.0 (sym (or_false (nat_eq id.0 value.0)) ∙ h))
+same_value value id h = same_number id value (eqb-true id.0 value.0 (sym (or-false (nat_eq id.0 value.0)) ∙ h))
 
 is_target-Some : (value : ValueId) (found : Option ValueId) → list_any (λ id. nat_eq id.0 value.0) (option_to_list found) ≡ true → found ≡ Some value
 is_target-Some value None h = absurd (true≢false (sym h))

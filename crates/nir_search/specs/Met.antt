@@ -5,7 +5,7 @@ use Rattle.std.proofs.Common.{sym, ◌∙◌, ap, arith}
 use Rattle.std.proofs.lemmas.List.{take-replicate, length-append}
 use Rattle.std.specs.List.{list_all, list_any}
 use Rattle.std.specs.Cmp.Lexicographic.{pointwise}
-use Rattle.list_laws.specs.BoolLaws.{or_false}
+use Rattle.std.proofs.Math.Bool.{or-false}
 use Rattle.nir_ops.specs.declared.width.Width.{Width}
 use Rattle.nir_ops.specs.declared.width.Width.TheVariants.{W8}
 use Rattle.nir_ir.specs.Nodes.{Nodes}
@@ -40,6 +40,6 @@ pub is_typed_eight : (rule : Rule) → IsFormed rule → is_eight_bit rule ≡ t
 unfolding is_typed
 is_typed_eight rule formed eight widths count =
     ap (λ list. list_any (λ typing. pointwise same_width (search_part rule typing) widths) list) (eight_typings rule formed eight)
-    ∙ or_false (pointwise same_width (search_part rule (all_eight rule)) widths)
+    ∙ or-false (pointwise same_width (search_part rule (all_eight rule)) widths)
     ∙ ap (λ list. pointwise same_width list widths) (take-replicate (size_of rule.search) (size_of rule.search + size_of rule.replace) W8 (omega arith) ∙ ap (λ n. replicate n W8) (sym count))
     ∙ beside_same W8 widths

@@ -209,11 +209,8 @@ sources_match visit = match_in visit.item visit.edges
     match_in (LoopHead id) edges = true
 
 -- V7: each used value is defined on every path to its user, and each source of a phi on every path along its edge
-abbrev pub comes_from : PhiSource → Edge → Bool
-comes_from source edge = is_from edge.from source
-
 abbrev pub is_defined_along : List Edge → PhiSource → Bool
-is_defined_along edges source = list_all (λ edge. not (comes_from source edge) || edge.set source.value.0) edges
+is_defined_along edges source = list_all (λ edge. not (is_from edge.from source) || edge.set source.value.0) edges
 
 abbrev pub uses_are_defined : Item → List Edge → Set → Bool
 uses_are_defined (BlockHead id) edges set = true

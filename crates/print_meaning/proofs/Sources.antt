@@ -16,9 +16,10 @@ use Rattle.nir_print.specs.BlockGroups.{all_permuted, in_block_order-permutation
 use Rattle.nir_print.specs.EachOf.{all_append}
 use Rattle.nir_print.specs.Naming.{in_block_order}
 use Rattle.nir_print.specs.Renumber.{Numbers, new_block, new_phi, new_phi_source}
+use Rattle.nir_ir.specs.Definitions.{is_from}
 use Rattle.nir_validate.specs.Edges.{Edge}
 use Rattle.nir_validate.specs.Fitting.{each, each_holds}
-use Rattle.nir_validate.specs.Rules.{comes_from, is_defined_along, named, names_each_once, predecessors}
+use Rattle.nir_validate.specs.Rules.{is_defined_along, named, names_each_once, predecessors}
 use Rattle.nir_validate.specs.Walk.{is_empty}
 use Rattle.print_meaning.proofs.Apart.{IsApart, apart_first}
 use Rattle.print_meaning.proofs.Walk.{EdgeRenamed, EdgesRenamed, block_renaming}
@@ -111,8 +112,8 @@ module _ (numbers : Numbers) where
 
   -- ---- sources along edges
 
-  comes_from-renamed : (source : PhiSource) (old new : Edge) → EdgeRenamed numbers old new → comes_from (new_phi_source numbers source) new ≡ comes_from source old
-  comes_from-renamed source old new h =
+  is_from-renamed : (source : PhiSource) (old new : Edge) → EdgeRenamed numbers old new → is_from new.from (new_phi_source numbers source) ≡ is_from old.from source
+  is_from-renamed source old new h =
       ap (λ from. list_any (λ id. nat_eq id.0 (new_block numbers source.from).0) (option_to_list from)) h.from ∙ by old.from h.apart
     where
       by : (from : Option BlockId) → AllByRecursion (IsApart (block_renaming numbers)) (map (λ id. id.0) (option_to_list from))
@@ -125,7 +126,7 @@ module _ (numbers : Numbers) where
   along-renamed source [] (edge ∷ new) h = absurd h
   along-renamed source (edge ∷ old) [] h = absurd h
   along-renamed source (edge ∷ old) (other ∷ new) h =
-      λ i. (not (comes_from-renamed source edge other h.0 i) || h.0.set source.value.0 i) && along-renamed source old new h.1 i
+      λ i. (not (is_from-renamed source edge other h.0 i) || h.0.set source.value.0 i) && along-renamed source old new h.1 i
 
   -- the sources are defined along their edges as they were
   pub sources_defined-renamed : (phi : Phi) (old new : List Edge) → EdgesRenamed numbers old new

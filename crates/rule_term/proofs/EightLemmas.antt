@@ -5,7 +5,7 @@ use Rattle.std.proofs.Math.Bool.{and-true}
 use Rattle.std.proofs.lemmas.List.{append-nil}
 use Rattle.std.proofs.lemmas.List.Folds.{list_all-append}
 use Rattle.std.specs.List.{list_all, list_any}
-use Rattle.list_laws.specs.BoolLaws.{or_assoc, or_false}
+use Rattle.std.proofs.Math.Bool.{or_assoc, or-false}
 use Rattle.nir_ops.specs.declared.op.Op.{Op}
 use Rattle.nir_ops.specs.declared.width.Width.{Width}
 use Rattle.rule_term.specs.declared.cond.Cond.{Cond}
@@ -41,7 +41,7 @@ list_any-append test [] second = refl
 list_any-append test (a ∷ first) second = ap (λ b. test a || b) (list_any-append test first second) ∙ sym (or_assoc (test a) (list_any test first) (list_any test second))
 
 pub asks-var : (var : ℕ) (constant : Bool) (size : Option Width) (cond : Option Cond) → list_any asks_eight (pieces (terms_of (term.Var var constant size cond ∷ []))) ≡ is_eight size
-asks-var var constant size cond = ap (λ t. list_any asks_eight (pieces t)) (terms_of-var var constant size cond) ∙ or_false (is_eight size)
+asks-var var constant size cond = ap (λ t. list_any asks_eight (pieces t)) (terms_of-var var constant size cond) ∙ or-false (is_eight size)
 
 pub asks-lit : (value : ℤ) (boolean : Bool) → list_any asks_eight (pieces (terms_of (term.Lit value boolean ∷ []))) ≡ false
 asks-lit value boolean = ap (λ t. list_any asks_eight (pieces t)) (terms_of-lit value boolean)
