@@ -7,6 +7,7 @@ use Rattle.std.specs.Option.{option_and_then, option_map}
 use Rattle.std.specs.Str.Parse.{digits_value_after}
 use Rattle.std.proofs.lemmas.Bool.Decides.{nat_tests}
 use Rattle.std.proofs.lemmas.List.{at_drop_more}
+use Rattle.list_laws.specs.PlaceLaws.{take_whole}
 use Rattle.nir_lex.specs.Numbers.{word_of}
 use Rattle.eval_words.specs.declared.words.Said.{Said}
 use Rattle.eval_words.specs.declared.words.Said.TheVariants.{Turns, Given, Filled}
@@ -48,10 +49,6 @@ cut_at byte bytes false rest = cut_more byte bytes (prefix_len is_no_comma bytes
 pub pieces_cut : (text : List ℕ) → pieces text ≡ take (prefix_len is_no_comma text) text ∷ left_behind (drop (prefix_len is_no_comma text) text)
 pieces_cut [] = refl
 pieces_cut (byte ∷ bytes) = cut_at byte bytes (nat_eq byte 44) (pieces_cut bytes)
-
-take_whole : (l : List ℕ) (n : ℕ) → n ≡ length l → take n l ≡ l
-take_whole [] n e = subst (λ (m : ℕ). take {A = ℕ} m [] ≡ []) (sym e) refl
-take_whole (x ∷ l) n e = subst (λ (m : ℕ). take {A = ℕ} m (x ∷ l) ≡ x ∷ l) (sym e) (ap (λ (r : List ℕ). x ∷ r) (take_whole l (length l) refl))
 
 behind_first : (rest : List ℕ) → 1 ≤ length rest → left_behind rest ≡ pieces (take (length rest - 1) (drop 1 rest))
 behind_first [] some = absurd (omega (arith, some))

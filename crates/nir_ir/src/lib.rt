@@ -10,8 +10,6 @@ mod kind;
 mod lists;
 mod node;
 mod shader;
-#[cfg(test)]
-mod tests;
 mod uses;
 
 pub use ids::{BlockId, EffectId, IfId, LoopId, ValueId};

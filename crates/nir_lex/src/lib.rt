@@ -12,6 +12,3 @@ pub use class::is_word;
 pub use fault::LexFault;
 pub use lexer::{blanks_are_passed, spelled_is_read, tokens, tokens_are_in_order};
 pub use token::{Token, TokenKind, Tokens};
-
-#[cfg(test)]
-mod tests;

@@ -1,7 +1,7 @@
 -- Words that fit a shader are inputs and buffers that fit it.
-use Rattle.std.proofs.Common.{◌≡◌, ℕ, zero, suc, ◌-◌, take, drop, ◌<◌, ◌≤◌, ◌^◌, true, List, [], ◌∷◌, length, refl, sym, ap, arith, subst}
+use Rattle.std.proofs.Common.{◌≡◌, ℕ, zero, suc, ◌<◌, ◌^◌, true, List, [], ◌∷◌, length, sym, arith}
 use Rattle.std.specs.Prelude.{nat_eq, nat_lt, slice_index}
-use Rattle.std.specs.List.{AllByRecursion, list_all, slice_index_or}
+use Rattle.std.specs.List.{list_all}
 use Rattle.std.proofs.lemmas.Bool.{and_parts, true≢false}
 use Rattle.std.proofs.lemmas.Bool.Decides.{nat_tests}
 use Rattle.nir_ops.specs.declared.width.Width.{Width}
@@ -52,17 +52,3 @@ inputs_from words s fits = inputs_are s.inputs words.inputs (and_parts (inputs_f
 pub buffers_from : (words : EvalWords) (s : ir.Shader) → words_fit words s ≡ true → length words.buffers ≡ s.buffers
 unfolding words_fit
 buffers_from words s fits = same_is (length words.buffers) s.buffers (and_parts (inputs_fit s.inputs words.inputs) (nat_eq (length words.buffers) s.buffers) fits).1
-
--- what holds at each place holds of all
-pub all_bytes : (bytes : List ℕ) → ((at : ℕ) → slice_index_or bytes at 0 < 256) → AllByRecursion (λ byte. byte < 256) bytes
-all_bytes [] each = tt
-all_bytes (byte ∷ bytes) each = (each 0, all_bytes bytes (λ at. each (suc at)))
-
-take_whole : (l : List (List ℕ)) (n : ℕ) → n ≡ length l → take n l ≡ l
-take_whole [] n e = subst (λ (m : ℕ). take {A = List ℕ} m [] ≡ []) (sym e) refl
-take_whole (x ∷ l) n e = subst (λ (m : ℕ). take {A = List ℕ} m (x ∷ l) ≡ x ∷ l) (sym e) (ap (λ (r : List (List ℕ)). x ∷ r) (take_whole l (length l) refl))
-
-pub all_buffers : (buffers : List (List ℕ)) → 1 ≤ length buffers → AllByRecursion (λ byte. byte < 256) (slice_index_or buffers 0 [])
-    → AllByRecursion (AllByRecursion (λ byte. byte < 256)) (take (length buffers - 1) (drop 1 buffers)) → AllByRecursion (AllByRecursion (λ byte. byte < 256)) buffers
-all_buffers [] some first rest = absurd (omega (arith, some))
-all_buffers (bytes ∷ buffers) some first rest = (first, subst (AllByRecursion (AllByRecursion (λ byte. byte < 256))) (take_whole buffers (suc (length buffers) - 1) (omega arith)) rest)

@@ -4,6 +4,8 @@ use Rattle.std.proofs.Math.Path.{fun_ext}
 use Rattle.std.specs.List.{AllByRecursion, IsDistinct, find, flat_map}
 use Rattle.std.specs.Option.{option_and_then, option_map, option_map_or, option_or, option_to_list, unwrap_or}
 use Rattle.std.proofs.lemmas.Bool.{eq-eqb, eqb-true, ne_eqb, true≢false}
+use Rattle.list_laws.specs.AllLaws.{all_back, all_both, all_each, all_front, all_of_map}
+use Rattle.list_laws.specs.MapLaws.{map-append}
 use Rattle.nir_ops.specs.declared.width.Width.TheVariants.{W1}
 use Rattle.op_eval.specs.declared.view.View.{View}
 use Rattle.nir_ir.specs.declared.ids.ValueId.{ValueId}
@@ -14,6 +16,7 @@ use Rattle.nir_ir.specs.declared.node.Phi.{Phi}
 use Rattle.nir_ir.specs.Definitions.{instr_of, is_phi_of, is_target, kind_at, kind_of_target, phi_of}
 use Rattle.nir_ir.specs.Found.{count_most}
 use Rattle.nir_ir.specs.Items.{Item, BlockHead, PhiItem, InstrItem, JumpItem, IfHead, LoopHead, defines, items}
+use Rattle.nir_ir.specs.Parts.{parts}
 use Rattle.nir_ir.specs.Nodes.{Nodes, Nil, BlockThen, IfThen, LoopThen}
 use Rattle.nir_ir.specs.Shader.{Shader}
 use Rattle.nir_ir.specs.Shaped.{IsShaped, IsShapedItem}
@@ -30,49 +33,23 @@ use Rattle.nir_mean.specs.Values.{Values}
 abbrev pub state_with : Values → List (List ℕ) → List (List ℕ) → List Stored → State
 state_with values buffers outputs stores = record { values = values; world = record { buffers = buffers; outputs = outputs; stores = stores } }
 
--- what holds of each of a list holds of each of its parts
-all-first : {A : Type 0} (P : A → Type 0) (a b : List A) → AllByRecursion P (a ++ b) → AllByRecursion P a
-all-first P [] b all = tt
-all-first P (x ∷ a) b all = (all.0, all-first P a b all.1)
-
-all-second : {A : Type 0} (P : A → Type 0) (a b : List A) → AllByRecursion P (a ++ b) → AllByRecursion P b
-all-second P [] b all = all
-all-second P (x ∷ a) b all = all-second P a b all.1
-
-all-unmap : {A B : Type 0} (f : A → B) (P : B → Type 0) (list : List A) → AllByRecursion P (map f list) → AllByRecursion (λ a. P (f a)) list
-all-unmap f P [] all = tt
-all-unmap f P (a ∷ list) all = (all.0, all-unmap f P list all.1)
-
-all-both : {A : Type 0} (P Q : A → Type 0) (list : List A) → AllByRecursion P list → AllByRecursion Q list → AllByRecursion (λ a. P a × Q a) list
-all-both P Q [] p q = tt
-all-both P Q (a ∷ list) p q = ((p.0, q.0), all-both P Q list p.1 q.1)
-
-all-imp : {A : Type 0} (P Q : A → Type 0) (list : List A) → ((a : A) → P a → Q a) → AllByRecursion P list → AllByRecursion Q list
-all-imp P Q [] h p = tt
-all-imp P Q (a ∷ list) h p = (h a p.0, all-imp P Q list h p.1)
-
 -- the numbers of the values
 number : Declared → ℕ
 number value = value.0.0
+
+number_one : (found : Option Declared) → map number (option_to_list found) ≡ map (λ id. id.0) (option_to_list (option_map (λ value. value.0) found))
+unfolding number
+number_one None = refl
+number_one (Some value) = refl
 
 numbers_one : (item : Item) → map number (declares item) ≡ map (λ id. id.0) (defines item)
 unfolding number
 numbers_one (BlockHead id) = refl
 numbers_one (PhiItem phi) = refl
-numbers_one (InstrItem (Alu id op kind srcs)) = refl
-numbers_one (InstrItem (Const id kind comps)) = refl
-numbers_one (InstrItem (Undef id kind)) = refl
-numbers_one (InstrItem (Input id kind slot)) = refl
-numbers_one (InstrItem (Output effect slot src)) = refl
-numbers_one (InstrItem (LoadBuf id kind buffer offset)) = refl
-numbers_one (InstrItem (StoreBuf effect buffer offset src)) = refl
+numbers_one (InstrItem instr) = number_one (parts instr).defines
 numbers_one (JumpItem jump) = refl
 numbers_one (IfHead id condition) = refl
 numbers_one (LoopHead id) = refl
-
-map-append : {A B : Type 0} (f : A → B) (a b : List A) → map f (a ++ b) ≡ map f a ++ map f b
-map-append f [] b = refl
-map-append f (x ∷ a) b = ap (λ t. f x ∷ t) (map-append f a b)
 
 numbers : (list : List Item) → map number (flat_map declares list) ≡ flat_map (λ item. map (λ id. id.0) (defines item)) list
 numbers [] = refl
@@ -222,12 +199,12 @@ few_items (LoopHead id ∷ list) all = few_items list all.1
 
 below : (s : Shader) → IsShaped s → AllByRecursion (λ value. value.0.0 < s.next_value) (declared s.body)
 unfolding number
-below s shaped = all-unmap number (λ n. n < s.next_value) (declared s.body) (subst (λ (list : List ℕ). AllByRecursion (λ n. n < s.next_value) list) (sym (numbers (items s.body))) shaped.below)
+below s shaped = all_of_map number (λ n. n < s.next_value) (declared s.body) (subst (λ (list : List ℕ). AllByRecursion (λ n. n < s.next_value) list) (sym (numbers (items s.body))) shaped.below)
 
 pub all_fit : (s : Shader) → IsShaped s → FitIn s.next_value (declared s.body)
 all_fit s shaped =
-    all-both (λ value. value.0.0 < s.next_value) (λ value. value.1.count ≤ 16) (declared s.body) (below s shaped)
-    (all-imp (λ value. value.1.count ≤ 4) (λ value. value.1.count ≤ 16) (declared s.body) (λ value few. omega arith) (few_items (items s.body) shaped.items))
+    all_both (λ value. value.0.0 < s.next_value) (λ value. value.1.count ≤ 16) (declared s.body) (below s shaped)
+    (all_each (λ value. value.1.count ≤ 4) (λ value. value.1.count ≤ 16) (λ value few. omega arith) (declared s.body) (few_items (items s.body) shaped.items))
 
 -- the table that is told of all values of a shader is the shader's
 shown_kind : (found : Option Declared) (before : Kind × List ℕ) → (shown_at found before).0 ≡ unwrap_or (option_map (λ value. value.1) found) before.0
@@ -265,9 +242,8 @@ Defined s value = (value.0.0 < s.next_value) × (kind_at s.body value.0 ≡ Some
 all_defined : (s : Shader) → IsShaped s → AllByRecursion (Defined s) (declared s.body)
 unfolding Defined
 all_defined s shaped =
-    all-both (λ value. value.0.0 < s.next_value) (λ value. kind_at s.body value.0 ≡ Some value.1) (declared s.body) (below s shaped)
-    (all-imp (λ value. found_in (declared s.body) value.0.0 ≡ Some value) (λ value. kind_at s.body value.0 ≡ Some value.1) (declared s.body)
-    (λ value found. kind_found s value.0 shaped ∙ ap (option_map (λ (v : Declared). v.1)) found)
+    all_both (λ value. value.0.0 < s.next_value) (λ value. kind_at s.body value.0 ≡ Some value.1) (declared s.body) (below s shaped)
+    (all_each (λ value. found_in (declared s.body) value.0.0 ≡ Some value) (λ value. kind_at s.body value.0 ≡ Some value.1) (λ value found. kind_found s value.0 shaped ∙ ap (option_map (λ (v : Declared). v.1)) found) (declared s.body)
     (self_found (declared s.body) (apart s shaped)))
 
 -- what a run asks of an item
@@ -302,23 +278,23 @@ sound_nodes s (BlockThen b rest) all =
     let heads : List Item = BlockHead b.id ∷ map PhiItem b.phis in
     let inner : List Item = map InstrItem b.instrs in
     let jumps : List Item = map JumpItem (option_to_list b.jump) in
-    let here = all-first (SoundItem s) (heads ++ inner ++ jumps) (items rest) all in
-    let front = all-first (SoundItem s) (heads ++ inner) jumps here in (
+    let here = all_front (SoundItem s) (heads ++ inner ++ jumps) (items rest) all in
+    let front = all_front (SoundItem s) (heads ++ inner) jumps here in (
       record {
-        phis = all-unmap PhiItem (SoundItem s) b.phis (all-first (SoundItem s) heads inner front).1;
-        instrs = all-unmap InstrItem (SoundItem s) b.instrs (all-second (SoundItem s) heads inner front);
+        phis = all_of_map PhiItem (SoundItem s) b.phis (all_front (SoundItem s) heads inner front).1;
+        instrs = all_of_map InstrItem (SoundItem s) b.instrs (all_back (SoundItem s) heads inner front);
       },
-      sound_nodes s rest (all-second (SoundItem s) (heads ++ inner ++ jumps) (items rest) all),
+      sound_nodes s rest (all_back (SoundItem s) (heads ++ inner ++ jumps) (items rest) all),
     )
 sound_nodes s (IfThen id condition first second rest) all =
-    let lists = all-first (SoundItem s) (items first ++ items second) (items rest) all.1 in (
-      sound_nodes s first (all-first (SoundItem s) (items first) (items second) lists),
-      sound_nodes s second (all-second (SoundItem s) (items first) (items second) lists),
-      sound_nodes s rest (all-second (SoundItem s) (items first ++ items second) (items rest) all.1),
+    let lists = all_front (SoundItem s) (items first ++ items second) (items rest) all.1 in (
+      sound_nodes s first (all_front (SoundItem s) (items first) (items second) lists),
+      sound_nodes s second (all_back (SoundItem s) (items first) (items second) lists),
+      sound_nodes s rest (all_back (SoundItem s) (items first ++ items second) (items rest) all.1),
     )
 sound_nodes s (LoopThen id body rest) all = (
-  sound_nodes s body (all-first (SoundItem s) (items body) (items rest) all.1),
-  sound_nodes s rest (all-second (SoundItem s) (items body) (items rest) all.1),
+  sound_nodes s body (all_front (SoundItem s) (items body) (items rest) all.1),
+  sound_nodes s rest (all_back (SoundItem s) (items body) (items rest) all.1),
 )
 
 pub typed_sound : (s : Shader) → IsShaped s → IsTyped s → NodesSound s s.body

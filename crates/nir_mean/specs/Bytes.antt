@@ -6,6 +6,7 @@ use Rattle.std.proofs.Math.ListN.{set}
 use Rattle.std.proofs.Math.Nat.{mod-lt, pow-suc}
 use Rattle.std.proofs.lemmas.List.FromFn.{length-map-range_with_len}
 use Rattle.std.proofs.lemmas.Nat.{pow_pos}
+use Rattle.list_laws.specs.AllLaws.{all_append}
 use Rattle.nir_ops.specs.declared.width.Width.{Width}
 use Rattle.nir_ops.specs.declared.width.Width.TheVariants.{W1, W8, W16, W32, W64}
 use Rattle.nir_ops.specs.Width.{width_bits}
@@ -31,10 +32,6 @@ all_drop : {A : Type 0} (P : A → Type 0) (n : ℕ) (list : List A) → AllByRe
 all_drop P zero list all = all
 all_drop P (suc n) [] all = tt
 all_drop P (suc n) (a ∷ list) all = all_drop P n list all.1
-
-all_append : {A : Type 0} (P : A → Type 0) (first second : List A) → AllByRecursion P first → AllByRecursion P second → AllByRecursion P (first ++ second)
-all_append P [] second a b = b
-all_append P (x ∷ first) second a b = (a.0, all_append P first second a.1 b)
 
 all_set : {A : Type 0} (P : A → Type 0) (list : List A) (at : ℕ) (new : A) → AllByRecursion P list → P new → AllByRecursion P (set list at new)
 all_set P [] at new all is = tt

@@ -1,15 +1,15 @@
 -- The values of a shader and their kinds, in text order, and what each value is before it is written.
-use Rattle.std.specs.Prelude.{ℕ, List, [], ◌∷◌, ◌≤◌, ◌<◌, cond, nat_eq, Option, Some, None}
+use Rattle.std.specs.Prelude.{ℕ, List, [], ◌∷◌, ◌≤◌, ◌<◌, cond, nat_eq, Option}
 use Rattle.std.specs.List.{AllByRecursion, flat_map}
 use Rattle.std.specs.Option.{option_to_list}
 use Rattle.nir_ops.specs.declared.width.Width.TheVariants.{W1}
 use Rattle.op_eval.specs.declared.view.View.{View}
 use Rattle.nir_ir.specs.declared.ids.ValueId.{ValueId}
 use Rattle.nir_ir.specs.declared.instr.Instr.{Instr}
-use Rattle.nir_ir.specs.declared.instr.Instr.TheVariants.{Alu, Const, Undef, Input, Output, LoadBuf, StoreBuf}
 use Rattle.nir_ir.specs.declared.kind.Kind.{Kind}
 use Rattle.nir_ir.specs.Items.{Item, BlockHead, PhiItem, InstrItem, JumpItem, IfHead, LoopHead, items}
 use Rattle.nir_ir.specs.Nodes.{Nodes}
+use Rattle.nir_ir.specs.Parts.{parts}
 use Rattle.nir_mean.specs.State.{zeros}
 use Rattle.nir_mean.specs.Table.{kinds_of, values_of}
 
@@ -18,13 +18,7 @@ abbrev pub Declared : Type 0
 Declared = ValueId × Kind
 
 abbrev pub declared_by : Instr → Option Declared
-declared_by (Alu id op kind srcs) = Some (id, kind)
-declared_by (Const id kind comps) = Some (id, kind)
-declared_by (Undef id kind) = Some (id, kind)
-declared_by (Input id kind slot) = Some (id, kind)
-declared_by (Output effect slot src) = None
-declared_by (LoadBuf id kind buffer offset) = Some (id, kind)
-declared_by (StoreBuf effect buffer offset src) = None
+declared_by instr = (parts instr).defines
 
 abbrev pub declares : Item → List Declared
 declares (BlockHead id) = []

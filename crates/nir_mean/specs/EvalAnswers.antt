@@ -1,6 +1,7 @@
 -- What each status of running a shader says of the words and of the text, and which line it writes.
-use Rattle.std.specs.Prelude.{◌≡◌, ◌^◌, ℕ, Bool, true, false, ◌&&◌, ◌++◌, List, [], ◌∷◌, length, codes, nat_eq, nat_lt, ⊤, ◌⊎◌}
+use Rattle.std.specs.Prelude.{◌≡◌, ◌^◌, ℕ, Bool, true, false, ◌&&◌, ◌++◌, List, [], ◌∷◌, length, codes, Option, Some, None, nat_eq, nat_lt, ⊤, ◌⊎◌}
 use Rattle.std.specs.List.{list_all}
+use Rattle.nir_host.specs.declared.fault.Which.TheVariants.{Rules, Shader}
 use Rattle.nir_ir.specs.declared.kind.Kind.{Kind}
 use Rattle.nir_ir.specs.Shader as ir
 use Rattle.nir_ops.specs.Width.{width_bits}
@@ -33,12 +34,14 @@ pub record IsGiven (words : EvalWords) (found : Answer) (fit : Bool) (s : ir.Sha
 abbrev pub Says : Status → EvalWords → Answer → Type 0
 Says status.Ok words found = (s : ir.Shader) × IsGiven words found true s
 Says Usage words found = ⊤
-Says (ReadFault which) words found = ⊤
+Says (ReadFault Rules) words found = ⊥
+Says (ReadFault Shader) words found = ⊤
 Says WriteFault words found = (s : ir.Shader) × IsGiven words found true s
 Says (ShaderSyntax fault) words found = found ≡ Faulty fault
 Says (ShaderInvalid rule item) words found = found ≡ Invalid rule item
 Says Misfit words found = (s : ir.Shader) × IsGiven words found false s
-Says (status.TooLong which) words found = found ≡ answer.TooLong
+Says (status.TooLong Rules) words found = ⊥
+Says (status.TooLong Shader) words found = found ≡ answer.TooLong
 Says OutOfMemory words found = ⊤
 
 -- the whole text was taken, or there was no memory
@@ -87,6 +90,11 @@ has_plain_line (ShaderInvalid rule item) = false
 has_plain_line Misfit = true
 has_plain_line (status.TooLong which) = true
 has_plain_line OutOfMemory = true
+
+-- the line of a status: built, or one of a few
+abbrev pub IsLine : Option (List ℕ) → Status → Type 0
+IsLine None status = has_plain_line status ≡ true
+IsLine (Some line) status = line ≡ line_of status
 
 -- the status that is answered for one whose line is written: want of memory for the line takes its place
 abbrev pub IsToldAs : Status → Status → Type 0

@@ -1,6 +1,6 @@
 //! The command that runs a shader and tells its outcome.
 
-ghost use Rattle.std.specs.Prelude.{◌≡◌, ℕ, ◌↔◌, ◌≢◌, ◌⊎◌, ◌++◌, IfOk, List, Some, None, false, true};
+ghost use Rattle.std.specs.Prelude.{◌≡◌, ℕ, ◌↔◌, ◌≢◌, IfOk, List, Some, None, true};
 ghost use Rattle.eval_words.specs.declared.words.EvalWords.{EvalWords as Given};
 ghost use Rattle.eval_words.specs.EvalWords.{eval_words};
 ghost use Rattle.nir_host.specs.Faults.{Rose};
@@ -9,16 +9,16 @@ ghost use Rattle.nir_host.specs.Whole.{TakesFront};
 ghost use Rattle.nir_ir.specs.Shader.{Shader as Whole};
 ghost use Rattle.nir_text.specs.declared.fault.TextFault.{TextFault};
 ghost use Rattle.nir_validate.specs.Valid.{Valid};
-ghost use Rattle.nir_mean.specs.EvalAnswers.{EndsWell, has_plain_line, IsGiven, IsToldAs, line_of, Says, words_fit};
+ghost use Rattle.nir_mean.specs.EvalAnswers.{EndsWell, IsGiven, IsLine, IsToldAs, line_of, Says, words_fit};
 ghost use Rattle.nir_mean.specs.Faults.{is_of_text};
+ghost use Rattle.nir_mean.specs.ShaderLines.{TakesLine};
 ghost use Rattle.nir_mean.specs.ShaderText.{answer_of, ReadsToEnd, Sound};
 ghost use Rattle.nir_mean.specs.Outcome.{outcome};
 ghost use Rattle.nir_mean.specs.OutcomeText.{outcome_text};
 
 use crate::evaluation::evaluate;
-use crate::fits::{hold_bytes, words_fit};
-use crate::lines::{outcome_text, plain_line};
-use crate::shader_lines::{invalid_line, syntax_line};
+use crate::fits::words_fit;
+use crate::lines::{built_line, outcome_text, plain_line};
 use crate::shader_text::{ShaderRefusal, read_valid};
 use crate::status::Status;
 use eval_words::{EvalWords, eval_words, have_reading};
@@ -50,6 +50,7 @@ pub fn run_shader<S: Source, K: Sink, N: Sink>(
 
     // A fault has its cause.
     ensures rules_fault { result ≢ Status.ReadFault Which.Rules }
+    ensures rules_length { result ≢ Status.TooLong Which.Rules }
     ensures shader_fault { result ≡ Status.ReadFault Which.Shader → Rose (S.faults shader.old) (S.faults shader.new) }
     ensures write_fault { result ≡ Status.WriteFault → Rose (K.faults out.old) (K.faults out.new) }
 
@@ -69,11 +70,12 @@ pub fn run_shader<S: Source, K: Sink, N: Sink>(
     ensures prefix { result ≡ Status.WriteFault → (given : Given) → eval_words words.now ≡ Some given → (text : List ℕ) → S.left shader.old ≡ Some text →
         (s : Whole) → answer_of text ≡ Sound s → (before : List ℕ) → K.taken out.old ≡ Some before →
         TakesFront before (K.taken out.new) (outcome_text (outcome s given.inputs given.buffers given.turns)) }
-    ensures notes { (before : List ℕ) → N.taken notes.old ≡ Some before →
-        (Rose (N.faults notes.old) (N.faults notes.new) → ⊥) → N.taken notes.new ≡ Some (before ++ line_of result) }
+    ensures notes { TakesLine (N.taken notes.old) (N.taken notes.new) (N.faults notes.old) (N.faults notes.new) (line_of result) }
 {
     let status = answered(alloc, words, shader, out);
-    noted(alloc, notes, status)
+    let told = with_line(alloc, status);
+    note(notes, &told);
+    told.status
 }
 
 /// The status of a run, whose line is not written yet.
@@ -91,6 +93,7 @@ fn answered<S: Source, K: Sink>(
 
     // A fault has its cause.
     ensures rules_fault { result ≢ Status.ReadFault Which.Rules }
+    ensures rules_length { result ≢ Status.TooLong Which.Rules }
     ensures shader_fault { result ≡ Status.ReadFault Which.Shader → Rose (S.faults shader.old) (S.faults shader.new) }
     ensures write_fault { result ≡ Status.WriteFault → Rose (K.faults out.old) (K.faults out.new) }
 
@@ -145,70 +148,50 @@ fn text_of_run(alloc: Global, shader: &Shader, given: &EvalWords) -> Result<Byte
     requires fits { words_fit given.now shader.now ≡ true }
     ensures { IfOk result (λ text. text ≡ outcome_text (outcome shader.now given.now.inputs given.now.buffers given.now.turns)) }
 {
-    hold_bytes(given.buffers.as_slice());
     let outcome = evaluate(alloc, shader, &given.inputs, &given.buffers, given.turns)?;
     let text = outcome_text(alloc, &outcome)?;
     Ok(text)
 }
 
-/// Writes a line to `notes`, whose faults change nothing.
-fn note<N: Sink>(notes: &mut N, line: &[u8])
-    ensures { (before : List ℕ) → N.taken notes.old ≡ Some before →
-        (Rose (N.faults notes.old) (N.faults notes.new) → ⊥) → N.taken notes.new ≡ Some (before ++ line.now) }
+/// A status that is told, and its line where that names a place or an item.
+#[derive(Drop)]
+struct Told {
+    status: Status,
+    built: Option<Bytes>,
+}
+
+/// The status that is told: where there is no memory for its line, want of memory takes its place. It stands before the line is
+/// written, so the sink of lines has no part in it.
+fn with_line(alloc: Global, status: Status) -> Told
+    ensures status { IsToldAs status result.status }
+    ensures line { IsLine result.built result.status }
+{
+    match built_line(alloc, &status) {
+        Ok(built) => Told { status, built },
+        Err(_no_memory) => Told {
+            status: Status::OutOfMemory,
+            built: None,
+        },
+    }
+}
+
+/// Writes the line of a status that is told to `notes`, whose faults change nothing.
+fn note<N: Sink>(notes: &mut N, told: &Told)
+    requires { IsLine told.now.built told.now.status }
+    ensures { TakesLine (N.taken notes.old) (N.taken notes.new) (N.faults notes.old) (N.faults notes.new) (line_of told.now.status) }
+{
+    match &told.built {
+        Some(line) => note_bytes(notes, line.as_slice()),
+        None => note_bytes(notes, plain_line(&told.status)),
+    }
+}
+
+/// Writes these bytes to `notes`.
+fn note_bytes<N: Sink>(notes: &mut N, line: &[u8])
+    ensures { TakesLine (N.taken notes.old) (N.taken notes.new) (N.faults notes.old) (N.faults notes.new) line.now }
 {
     match write_all(notes, line) {
         Ok(()) => {}
         Err(_fault) => {}
     }
-}
-
-/// Writes the line of a status. A status whose line names a place or an item needs memory for it, and is want of
-/// memory where there is none.
-fn noted<N: Sink>(alloc: Global, notes: &mut N, status: Status) -> Status
-    ensures status { IsToldAs status result }
-    ensures notes { (before : List ℕ) → N.taken notes.old ≡ Some before →
-        (Rose (N.faults notes.old) (N.faults notes.new) → ⊥) → N.taken notes.new ≡ Some (before ++ line_of result) }
-{
-    match status {
-        Status::ShaderSyntax(fault) => {
-            let line = syntax_line(alloc, &fault);
-            told(notes, Status::ShaderSyntax(fault), line)
-        }
-        Status::ShaderInvalid { rule, item } => {
-            let line = invalid_line(alloc, rule, item);
-            told(notes, Status::ShaderInvalid { rule, item }, line)
-        }
-        Status::Ok => plainly(notes, Status::Ok),
-        Status::Usage => plainly(notes, Status::Usage),
-        Status::ReadFault(which) => plainly(notes, Status::ReadFault(which)),
-        Status::WriteFault => plainly(notes, Status::WriteFault),
-        Status::Misfit => plainly(notes, Status::Misfit),
-        Status::TooLong(which) => plainly(notes, Status::TooLong(which)),
-        Status::OutOfMemory => plainly(notes, Status::OutOfMemory),
-    }
-}
-
-/// Writes the line of a status, where it takes no memory.
-fn plainly<N: Sink>(notes: &mut N, status: Status) -> Status
-    requires { has_plain_line status ≡ true }
-    ensures status { result ≡ status }
-    ensures notes { (before : List ℕ) → N.taken notes.old ≡ Some before →
-        (Rose (N.faults notes.old) (N.faults notes.new) → ⊥) → N.taken notes.new ≡ Some (before ++ line_of status) }
-{
-    note(notes, plain_line(&status));
-    status
-}
-
-/// Writes the line of a status, where there was memory to build it.
-fn told<N: Sink>(notes: &mut N, status: Status, line: Result<Bytes, OutOfMemory>) -> Status
-    requires line { IfOk line (λ line. line ≡ line_of status) }
-    ensures status { (result ≡ status) ⊎ (result ≡ Status.OutOfMemory) }
-    ensures notes { (before : List ℕ) → N.taken notes.old ≡ Some before →
-        (Rose (N.faults notes.old) (N.faults notes.new) → ⊥) → N.taken notes.new ≡ Some (before ++ line_of result) }
-{
-    let Ok(line) = line else {
-        return plainly(notes, Status::OutOfMemory);
-    };
-    note(notes, line.as_slice());
-    status
 }

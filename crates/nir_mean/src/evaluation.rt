@@ -1,8 +1,8 @@
 //! The evaluation of a shader.
 
-ghost use Rattle.std.specs.Prelude.{◌≡◌, IfOk};
+ghost use Rattle.std.specs.Prelude.{◌≡◌, length, IfOk};
 ghost use Rattle.nir_mean.specs.Outcome.{outcome};
-ghost use Rattle.nir_mean.specs.Same.{BuffersFit, InputsFit};
+ghost use Rattle.nir_mean.specs.Same.{InputsFit};
 ghost use Rattle.nir_validate.specs.Typed.{IsTyped};
 
 use crate::given::Given;
@@ -16,7 +16,7 @@ use nir_ir::Shader;
 use std::alloc::Global;
 
 /// What the shader does for these inputs and contents of its buffers, where a loop goes back at most `turns` times for
-/// each time that it is entered. The shader is typed, and inputs and buffers fit its declarations. It ends for every number
+/// each time that it is entered. The shader is typed, inputs fit its declarations, and there are as many buffers as it declares. It ends for every number
 /// of turns, in time that grows with the steps that are run. `OutOfMemory` may come at any step.
 pub fn evaluate(
     alloc: Global,
@@ -27,7 +27,7 @@ pub fn evaluate(
 ) -> Result<Outcome, OutOfMemory>
     requires typed { IsTyped shader.now }
     requires inputs { InputsFit shader.now.inputs inputs.now }
-    requires buffers { BuffersFit shader.now.buffers buffers.now }
+    requires buffers { length buffers.now ≡ shader.now.buffers }
     ensures { IfOk result (λ answer. answer ≡ outcome shader.now inputs.now buffers.now turns) }
 {
     let given = Given {

@@ -1,12 +1,11 @@
 //! Whether the inputs and buffers of words fit a shader.
 
-ghost use Rattle.std.specs.Prelude.{◌≡◌, ◌<◌, ◌^◌, nat_lt};
-ghost use Rattle.std.specs.List.{AllByRecursion, list_all};
+ghost use Rattle.std.specs.Prelude.{◌≡◌, ◌^◌, nat_lt};
+ghost use Rattle.std.specs.List.{list_all};
 ghost use Rattle.nir_ops.specs.Width.{width_bits};
 ghost use Rattle.nir_mean.specs.EvalAnswers.{comps_fit, inputs_fit, words_fit};
 
 use eval_words::EvalWords;
-use nir_host::Bytes;
 use nir_ir::{Comps, Kind, Shader};
 use nir_ops::Width;
 
@@ -71,24 +70,4 @@ pub fn words_fit(words: &EvalWords, shader: &Shader) -> bool
         return false;
     }
     words.buffers.len() as u64 == u64::from(shader.buffers)
-}
-
-fn are_bytes(bytes: &[u8])
-    ensures { AllByRecursion (λ byte. byte < 256) bytes.now }
-{
-    let _bytes = bytes;
-}
-
-/// The items of buffers are bytes, as their types say.
-#[tactic(auto, using(crate::proofs::FitLemmas::all_buffers))]
-pub fn hold_bytes(buffers: &[Bytes])
-    ensures { AllByRecursion (AllByRecursion (λ byte. byte < 256)) buffers.now }
-{
-    match buffers {
-        [] => {}
-        [bytes, rest @ ..] => {
-            are_bytes(bytes.as_slice());
-            hold_bytes(rest);
-        }
-    }
 }

@@ -1,12 +1,13 @@
 //! The lines of the statuses that name no place, and the text of an outcome.
 
-ghost use Rattle.std.specs.Prelude.{◌≡◌, ◌++◌, true, codes, decimal, IfOk, OnOk};
+ghost use Rattle.std.specs.Prelude.{◌≡◌, ◌++◌, true, false, codes, decimal, IfOk, OnErr, OnOk};
 ghost use Rattle.std.specs.List.{flat_map};
-ghost use Rattle.nir_mean.specs.EvalAnswers.{has_plain_line, line_of};
+ghost use Rattle.nir_mean.specs.EvalAnswers.{has_plain_line, IsLine, line_of};
 ghost use Rattle.nir_mean.specs.OutcomeText.{ending_text, outcome_text, outputs_text, store_text};
 ghost use Rattle.text_bytes.specs.Lists.{numbers_text};
 
 use crate::outcome::{Ending, Outcome, Outputs, Stored, Stores};
+use crate::shader_lines::{invalid_line, syntax_line};
 use crate::status::Status;
 use nir_host::{Bytes, OutOfMemory, Which};
 use std::alloc::Global;
@@ -28,6 +29,24 @@ pub fn plain_line(status: &Status) -> &'static [u8]
         Status::TooLong(Which::Rules) => b"too long: rules\n",
         Status::TooLong(Which::Shader) => b"too long: shader\n",
         Status::OutOfMemory => b"out of memory\n",
+    }
+}
+
+/// The line of a status that names a place or an item, with its line feed; None for every other status.
+pub fn built_line(alloc: Global, status: &Status) -> Result<Option<Bytes>, OutOfMemory>
+    ensures line { IfOk result (λ built. IsLine built status.now) }
+    ensures no_memory { OnErr result (has_plain_line status.now ≡ false) }
+{
+    match status {
+        Status::ShaderSyntax(fault) => Ok(Some(syntax_line(alloc, fault)?)),
+        Status::ShaderInvalid { rule, item } => Ok(Some(invalid_line(alloc, *rule, *item)?)),
+        Status::Ok
+        | Status::Usage
+        | Status::ReadFault(_)
+        | Status::WriteFault
+        | Status::Misfit
+        | Status::TooLong(_)
+        | Status::OutOfMemory => Ok(None),
     }
 }
 

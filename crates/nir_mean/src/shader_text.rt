@@ -49,12 +49,13 @@ pub fn read_shader_bytes<S: Source>(alloc: Global, source: &mut S) -> Result<Byt
 /// The shader of a text that is not too long, where it is valid.
 ///
 /// `Syntax` comes exactly where the text is not in the grammar, with its first fault, and `Invalid` exactly where it
-/// is and its shader breaks a rule, with the first that it breaks.
+/// is and its shader breaks a rule, with the first that it breaks. A text defines at most 16,384 values.
 #[tactic(auto, using(crate::proofs::TextLemmas::answer_fault, crate::proofs::TextLemmas::answer_sound, crate::proofs::TextLemmas::answer_invalid))]
 pub fn valid_shader(alloc: Global, text: &[u8]) -> Result<Shader, ShaderRefusal>
     requires { length text.now ≤ 4194304 }
     ensures told { Answers result (answer_of text.now) }
     ensures valid { IfOk result (λ shader. Valid shader) }
+    ensures few { IfOk result (λ shader. shader.next_value ≤ 16384) }
     ensures syntax { TellsFault result }
     ensures no_read_fault { result ≢ Err ShaderRefusal.ReadFault }
 {
@@ -81,6 +82,7 @@ pub fn valid_shader(alloc: Global, text: &[u8]) -> Result<Shader, ShaderRefusal>
 pub fn read_valid<S: Source>(alloc: Global, source: &mut S) -> Result<Shader, ShaderRefusal>
     ensures told { (text : List ℕ) → S.left source.old ≡ Some text → Answers result (answer_of text) }
     ensures valid { IfOk result (λ shader. Valid shader) }
+    ensures few { IfOk result (λ shader. shader.next_value ≤ 16384) }
     ensures syntax { TellsFault result }
     ensures end { OnOk result (ReadsToEnd (S.left source.old) (S.left source.new)) }
     ensures fault { result ≡ Err ShaderRefusal.ReadFault → Rose (S.faults source.old) (S.faults source.new) }

@@ -4,7 +4,7 @@ ghost use Rattle.std.specs.Prelude.{◌≡◌, ◌<◌, ◌≤◌, [], ◌∷◌
 ghost use Rattle.std.specs.List.{flat_map};
 ghost use Rattle.nir_ir.specs.Items.{InstrItem, PhiItem};
 ghost use Rattle.nir_ir.specs.Nodes.{Nil, BlockThen, nodes_of};
-ghost use Rattle.nir_mean.specs.Declares.{FitIn, declared, declared_by, declares, nothing_shown, shown_of, told_of};
+ghost use Rattle.nir_mean.specs.Declares.{FitIn, declared, declares, nothing_shown, shown_of, told_of};
 ghost use Rattle.nir_mean.specs.State.{unwritten, zeros};
 ghost use Rattle.nir_mean.specs.Table.{IsTable, values_of};
 
@@ -42,21 +42,6 @@ fn declare(table: &mut Table, id: ValueId, kind: Kind)
     *table.views.at_mut(id.0 as usize) = zero_view(kind);
 }
 
-/// The value that an instruction defines, and its kind.
-fn declared_by(instr: &Instr) -> Option<(ValueId, Kind)>
-    ensures { result ≡ declared_by instr.now }
-{
-    match instr {
-        Instr::Alu { value, kind, .. } => Some((*value, *kind)),
-        Instr::Const { value, kind, .. } => Some((*value, *kind)),
-        Instr::Undef { value, kind } => Some((*value, *kind)),
-        Instr::Input { value, kind, .. } => Some((*value, *kind)),
-        Instr::Output { .. } => None,
-        Instr::LoadBuf { value, kind, .. } => Some((*value, *kind)),
-        Instr::StoreBuf { .. } => None,
-    }
-}
-
 /// Tells the table of the phis of a block.
 fn declare_phis(table: &mut Table, phis: &[Phi])
     requires { FitIn (length table.old.views) (flat_map declares (map PhiItem phis.now)) }
@@ -74,7 +59,7 @@ fn declare_instr(table: &mut Table, instr: &Instr)
     ensures shown { shown_of table.new.views ≡ told_of (declares (InstrItem instr.now)) (shown_of table.old.views) }
     ensures len { length table.new.views ≡ length table.old.views }
 {
-    match declared_by(instr) {
+    match instr.defines() {
         Some((id, kind)) => declare(table, id, kind),
         None => {}
     }

@@ -15,7 +15,7 @@ use Rattle.rule_term.specs.Lists.{terms_of-app, terms_of-drop, terms_of-lit, ter
 use Rattle.rule_term.specs.Pieces.{op_of, ops_of, pieces}
 use Rattle.rule_term.specs.Splits.{pieces-then}
 use Rattle.rule_term.specs.Terms.{Terms, terms_of}
-use Rattle.rewrite_pass.specs.Built.{is_leaf}
+use Rattle.nir_search.specs.Built.{is_leaf}
 use Rattle.nir_opt.specs.FirstRules.{is_first_piece, is_rule_op}
 
 abbrev are_first : Terms → Bool

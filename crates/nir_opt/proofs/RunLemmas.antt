@@ -11,7 +11,7 @@ use Rattle.rule_term.specs.Table.{Table}
 use Rattle.rule_read.specs.declared.entry.Entry.{Entry}
 use Rattle.rule_read.specs.RuleFile.{RuleFile}
 use Rattle.rule_check.specs.Accepted.{is_tried, rules_of, stands_at_eight}
-use Rattle.rewrite_pass.specs.Built.{is_built, is_leaf}
+use Rattle.nir_search.specs.Built.{is_built, is_leaf}
 use Rattle.nir_mean.specs.Same.{Same, Same-trans}
 use Rattle.nir_print.specs.Renumber.{renumber}
 use Rattle.nir_print.specs.RoundTrip.{IsTextOf, printed_names}

@@ -10,7 +10,7 @@ use Rattle.rule_read.specs.declared.entry.Entry.{Entry}
 use Rattle.rule_read.specs.RuleFile.{RuleFile}
 use Rattle.rule_read.specs.Rules.{read_file}
 use Rattle.rule_check.specs.Accepted.{is_tried, stands_at_eight}
-use Rattle.rewrite_pass.specs.Built.{is_leaf}
+use Rattle.nir_search.specs.Built.{is_leaf}
 use Rattle.nir_opt.specs.FirstForm.{is_first_op}
 
 abbrev pub is_from_to : ℕ → ℕ → ℕ → Bool

@@ -2,7 +2,7 @@
 
 ghost use Rattle.std.specs.Prelude.{◌≡◌, ◌≤◌, true, [], ◌∷◌, length, IfOk, IfSome};
 ghost use Rattle.std.specs.List.{list_all};
-ghost use Rattle.rewrite_pass.specs.Built.{is_leaf};
+ghost use Rattle.nir_search.specs.Built.{is_leaf};
 ghost use Rattle.rule_term.specs.Pieces.{ops_of, pieces};
 ghost use Rattle.rule_term.specs.Terms.{terms_of};
 ghost use Rattle.nir_opt.specs.FirstRules.{are_first_rules, first_rules, is_first_piece, is_first_rule, is_first_search, is_rule_op};

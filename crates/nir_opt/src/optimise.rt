@@ -4,7 +4,7 @@ ghost use Rattle.std.specs.Prelude.{◌≡◌, ◌+◌, ◌<◌, ◌≤◌, ℕ,
 ghost use Rattle.std.specs.List.{list_all};
 ghost use Rattle.nir_search.specs.Steps.{replay, is_settled};
 ghost use Rattle.nir_search.specs.Weight.{weight_of};
-ghost use Rattle.rewrite_pass.specs.Built.{is_built};
+ghost use Rattle.nir_search.specs.Built.{is_built};
 ghost use Rattle.rule_term.specs.Table.{AllHold};
 ghost use Rattle.rule_meaning.specs.StepSame.{AllFormed};
 ghost use Rattle.nir_ir.specs.Shaped.{IsShaped};

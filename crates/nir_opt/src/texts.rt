@@ -6,7 +6,7 @@ ghost use Rattle.nir_host.specs.Faults.{Rose};
 ghost use Rattle.nir_mean.specs.ShaderText.{ReadsToEnd};
 ghost use Rattle.nir_search.specs.Weight.{weight_of};
 ghost use Rattle.nir_validate.specs.Valid.{Valid};
-ghost use Rattle.rewrite_pass.specs.Built.{is_built};
+ghost use Rattle.nir_search.specs.Built.{is_built};
 ghost use Rattle.nir_opt.specs.Answers.{shader_answer};
 ghost use Rattle.nir_opt.specs.FirstForm.{is_first_form};
 ghost use Rattle.nir_opt.specs.FirstRules.{are_first_rules, first_rules};

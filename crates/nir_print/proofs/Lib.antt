@@ -4,7 +4,6 @@ pub mod NamingLemmas
 pub mod OrderedLemmas
 pub mod Lines
 pub mod BlockOrder
-pub mod SampleShaped
 pub mod Lexing
 pub mod Parts
 pub mod Spelled

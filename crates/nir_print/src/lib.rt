@@ -12,11 +12,7 @@ ghost use Rattle.nir_print.specs.Text.{text_of, line, kinds_text};
 mod collect;
 mod line;
 mod naming;
-#[cfg(test)]
-mod round_trip_tests;
 mod sources;
-#[cfg(test)]
-mod tests;
 mod tree;
 mod word;
 

@@ -1,7 +1,9 @@
-pub mod Weight
+pub mod Built
+pub mod First
+pub mod FirstLaws
 pub mod Match
 pub mod Met
-pub mod First
 pub mod Put
 pub mod Steps
 pub mod Walks
+pub mod Weight

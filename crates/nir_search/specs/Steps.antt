@@ -1,7 +1,7 @@
 -- The step by a rule: where it is legal, the shader after it, and the shader after a list of steps.
 use Rattle.op_eval.specs.Calls.{same_width}
 use Rattle.nir_ir.specs.Definitions.{kind_at}
-use Rattle.std.specs.Prelude.{ℕ, Bool, false, ◌&&◌, Option, Some, None, List, [], ◌∷◌, nat_eq, is_none, slice_get, if◌then◌else◌}
+use Rattle.std.specs.Prelude.{◌≡◌, ℕ, Bool, false, ◌&&◌, Option, Some, None, List, [], ◌∷◌, nat_eq, is_none, slice_get, if◌then◌else◌}
 use Rattle.std.specs.List.{list_all, find}
 use Rattle.std.specs.Option.{option_and_then, option_map, option_map_or}
 use Rattle.std.specs.Cmp.Lexicographic.{pointwise}
@@ -10,13 +10,14 @@ use Rattle.nir_ir.specs.declared.ids.ValueId.{ValueId}
 use Rattle.nir_ir.specs.declared.journal.Step.{Step}
 use Rattle.nir_ir.specs.declared.journal.Step.TheVariants as step
 use Rattle.nir_ir.specs.Items.{values_defined}
+use Rattle.nir_ir.specs.Nodes.{Nodes}
 use Rattle.nir_ir.specs.Shader.{Shader}
 use Rattle.rule_term.specs.declared.when.Options.{Options}
 use Rattle.rule_term.specs.Rule.{Rule}
 use Rattle.rule_term.specs.Typings.{search_part, replace_part, typings}
 use Rattle.nir_search.specs.declared.hit.Bind.{Bind}
 use Rattle.nir_search.specs.declared.hit.Hit.{Hit}
-use Rattle.nir_search.specs.Match.{met, root_view}
+use Rattle.nir_search.specs.Match.{match_of, met, root_view}
 use Rattle.nir_search.specs.First.{first_hit}
 use Rattle.nir_search.specs.Put.{root_of, put_root}
 
@@ -38,6 +39,14 @@ put rule variant s value subst =
 -- the shader after what was found at the value was put there
 abbrev pub put_hit : List Rule → Shader → ValueId → Hit → Option Shader
 put_hit table s value hit = option_and_then (λ rule. put rule hit.variant s value hit.subst) (slice_get table hit.rule)
+
+-- what the variables of the hit's rule take where the hit's variant of it matches at the value
+abbrev pub match_of_hit : List Rule → Nodes → ValueId → Hit → Option (List Bind)
+match_of_hit table body value hit = option_and_then (λ rule. match_of rule hit.variant body value) (slice_get table hit.rule)
+
+-- the hit's rule and variant match at the value with the hit's substitution
+abbrev pub IsHit : List Rule → Nodes → ValueId → Hit → Type 0
+IsHit table body value hit = match_of_hit table body value hit ≡ Some hit.subst
 
 -- a hit is that of a rule of this number and of this variant
 abbrev pub is_of : List Rule → ℕ → ℕ → Hit → Bool

@@ -16,26 +16,15 @@ use nir_ir::{Instr, Kind, Shader, ValueId};
 use nir_ops::{Op, Width, info};
 use rule_term::{Cond, cond_holds, reduced};
 
-/// The kind of the value that an instruction defines.
-fn kind_of_target(instr: &Instr) -> Option<Kind>
-    ensures { result ≡ kind_of_target instr.now }
-{
-    match instr {
-        Instr::Alu { kind, .. }
-        | Instr::Const { kind, .. }
-        | Instr::Undef { kind, .. }
-        | Instr::Input { kind, .. }
-        | Instr::LoadBuf { kind, .. } => Some(*kind),
-        Instr::Output { .. } | Instr::StoreBuf { .. } => None,
-    }
-}
-
 /// The kind of the value that an instruction defines, where one does.
 fn kind_at_instr(shader: &Shader, value: ValueId) -> Option<Kind>
     ensures { result ≡ option_and_then kind_of_target (instr_defining value shader.now.body) }
 {
     match shader.instr(value) {
-        Some(instr) => kind_of_target(instr),
+        Some(instr) => match instr.defines() {
+            Some((_value, kind)) => Some(kind),
+            None => None,
+        },
         None => None,
     }
 }

@@ -19,8 +19,6 @@ mod sign;
 mod sources;
 mod swizzle;
 mod table;
-#[cfg(test)]
-mod tests;
 mod tree;
 
 pub use fault::TextFault;

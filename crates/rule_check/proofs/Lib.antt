@@ -1,4 +1,3 @@
 pub mod Refusals
-pub mod TestRules
 pub mod Trials
 pub mod Walks

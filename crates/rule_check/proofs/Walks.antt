@@ -1,6 +1,7 @@
 -- What a walk over terms meets, term by term.
 use Rattle.op_eval.specs.Calls.{same_width}
 use Rattle.std.proofs.Common.{◌≡◌, ℕ, ℤ, ◌+◌, ◌-◌, ◌<◌, ◌≤◌, suc, Bool, true, false, ◌&&◌, Option, Some, None, List, [], ◌∷◌, ◌++◌, nat_eq, length, get_or, take, drop, refl, sym, ◌∙◌, ap, arith, add-zero}
+use Rattle.std.proofs.Math.Bool.{and-true}
 use Rattle.std.specs.List.{find, list_all}
 use Rattle.std.specs.Prelude.{cond}
 use Rattle.std.specs.Option.{option_map, option_or}
@@ -59,10 +60,6 @@ pub all-step : (test : Occurrence → Bool) (list : List Term) (i : ℕ) (t : Te
 all-step test list i t widths place next within at behind =
     ap (list_all test) (occurrences-step list i t widths place next within at behind)
     ∙ list_all-append test (occurrences (terms_of (t ∷ [])) (drop place widths)) (occurrences (terms_of (drop (i + 1) list)) (drop next widths))
-
-and-true : (b : Bool) → (b && true) ≡ b
-and-true true = refl
-and-true false = refl
 
 first-drop : (widths : List Width) (place : ℕ) → first_of (drop place widths) ≡ get_or widths place W1
 first-drop widths place = get_or-drop place widths 0 W1 ∙ ap (λ n. get_or widths n W1) (add-zero place)

@@ -1,6 +1,7 @@
 //! The trial of all cases: both sides of a rule are computed for all values of its variables.
 
-ghost use Rattle.std.specs.Prelude.{◌≡◌, ◌≤◌, true, length, sum};
+ghost use Rattle.std.specs.Prelude.{◌≡◌, ◌≤◌, true, length, sum, IfOk};
+ghost use Rattle.std.specs.Option.{option_map};
 ghost use Rattle.rule_term.specs.Typings.{is_typing};
 ghost use Rattle.rule_term.specs.Holds.{are_words};
 ghost use Rattle.rule_check.specs.Cases.{differs_at, first_difference, tuple, trial_of, var_bits};
@@ -8,7 +9,10 @@ ghost use Rattle.rule_check.specs.Cases.{differs_at, first_difference, tuple, tr
 use crate::meets::meets;
 use crate::sizes::{bits_of_vars, total};
 use crate::values::Values;
+use arrayvec::ArrayVec;
+use nir_host::OutOfMemory;
 use rule_term::{Rule, Side, Typing, eval_term};
+use std::alloc::Global;
 
 /// The most bits of all variables together that are tried.
 const MOST_BITS: u32 = 16;
@@ -25,28 +29,31 @@ pub enum Trial {
 }
 
 /// Computes both sides of the rule at the typing for all values of its variables that meet the conditions, in
-/// lexicographic order. Takes no memory.
-pub fn try_cases(rule: &Rule, typing: &Typing) -> Trial
+/// lexicographic order. Takes memory for the values that it answers, and for nothing else.
+pub fn try_cases(alloc: Global, rule: &Rule, typing: &Typing) -> Result<Trial, OutOfMemory>
     requires typing { is_typing rule.now typing.now.widths ≡ true }
-    ensures { result ≡ trial_of rule.now typing.now.widths }
+    ensures { IfOk result (λ trial. trial ≡ trial_of rule.now typing.now.widths) }
 {
     let bits = bits_of_vars(rule, typing);
     if total(bits.as_slice()) > MOST_BITS {
-        return Trial::TooMany;
+        return Ok(Trial::TooMany);
     }
     match first_difference(rule, typing, bits.as_slice()) {
-        Some(values) => Trial::Differ(values),
-        None => Trial::Equal,
+        Some(values) => {
+            let values = Values::from_slice(alloc, values.as_slice())?;
+            Ok(Trial::Differ(values))
+        }
+        None => Ok(Trial::Equal),
     }
 }
 
 /// The first values at which the sides differ.
-fn first_difference(rule: &Rule, typing: &Typing, bits: &[u32]) -> Option<Values>
+fn first_difference(rule: &Rule, typing: &Typing, bits: &[u32]) -> Option<ArrayVec<u64, 16>>
     requires typing { is_typing rule.now typing.now.widths ≡ true }
     requires bits { bits.now ≡ var_bits rule.now typing.now.widths }
     requires count { length bits.now ≤ 16 }
     requires few { sum bits.now ≤ 16 }
-    ensures { result ≡ first_difference rule.now typing.now.widths }
+    ensures { option_map (λ values. values.items) result ≡ first_difference rule.now typing.now.widths }
 {
     let free = total(bits);
     for number in 0..1u64 << free {
@@ -59,13 +66,13 @@ fn first_difference(rule: &Rule, typing: &Typing, bits: &[u32]) -> Option<Values
 }
 
 /// The values of a number: words of so many bits, of which the first counts slowest.
-fn tuple_at(bits: &[u32], free: u32, number: u64) -> Values
+fn tuple_at(bits: &[u32], free: u32, number: u64) -> ArrayVec<u64, 16>
     requires count { length bits.now ≤ 16 }
     requires free { free ≡ sum bits.now }
     requires few { free ≤ 16 }
-    ensures { result ≡ tuple bits.now number }
+    ensures { result.items ≡ tuple bits.now number }
 {
-    let mut values = Values::new();
+    let mut values = ArrayVec::new();
     let mut left = free;
     let mut rest = number;
     for width in bits {

@@ -97,7 +97,8 @@ fn cause_of(alloc: Global, rule: &Rule) -> Result<Option<RuleCause>, OutOfMemory
     // The proof learns that the rule is formed.
     let _vars = rule.vars;
     let typing = Typing::all_eight(alloc, rule)?;
-    match try_cases(rule, &typing) {
+    let trial = try_cases(alloc, rule, &typing)?;
+    match trial {
         Trial::Equal => Ok(None),
         Trial::Differ(values) => Ok(Some(RuleCause::Cases(values))),
         Trial::TooMany => Ok(Some(RuleCause::TooManyCases)),

@@ -3,13 +3,9 @@
 
 mod cases;
 mod file;
-#[cfg(test)]
-mod file_tests;
 mod meets;
 mod refused;
 mod sizes;
-#[cfg(test)]
-mod tests;
 mod values;
 
 pub use cases::{Trial, try_cases};

@@ -13,7 +13,9 @@ use Rattle.nir_validate.specs.Edges.{Set}
 use Rattle.rule_term.specs.Formed.{numbered}
 use Rattle.nir_search.specs.declared.hit.Bind.{Bind}
 use Rattle.nir_search.specs.Match.{all_bound, bind, bind_slot, same_view}
-use Rattle.rule_meaning.specs.Parts.{if_parts, set_kept, set_read, set_same}
+use Rattle.list_laws.specs.OptionLaws.{if_some}
+use Rattle.list_laws.specs.PlaceLaws.{get_set_same}
+use Rattle.rule_meaning.specs.Parts.{set_kept, set_read}
 use Rattle.rule_meaning.specs.Views.{IsView}
 
 -- the variable is bound to the view
@@ -49,12 +51,12 @@ taken_slot body set count None var view before after is h = absurd (none-some af
 taken_slot body set count (Some None) var view before after is h =
     subst (IsTaken body set count var view before) (same_Some (slice_set before var (Some view)) after h) (record {
       same = length-set before var (Some view);
-      here = set_same before var None view is;
+      here = get_set_same before var None (Some view) is;
       extends = λ k other at. set_kept before var k view other is at;
       views = λ own all k other at. ⊎_elim (λ e. subst (IsView body set count) e own) (λ old. all k other old) (set_read before var k view other at);
     })
 taken_slot body set count (Some (Some old)) var view before after is h =
-    let parts = if_parts (same_view old view) (Some before) after h in
+    let parts = if_some (same_view old view) (Some before) after h in
     subst (IsTaken body set count var view before) (same_Some before after parts.1) (record {
       same = refl;
       here = is ∙ ap (λ v. Some (Some v)) (same_view-same old view parts.0);

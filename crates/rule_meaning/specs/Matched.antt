@@ -33,7 +33,8 @@ use Rattle.nir_mean.specs.Values.{Values}
 use Rattle.rule_meaning.specs.Bound.{AreBound, IsBound, IsBoundTo, all_numbered, are_bound}
 use Rattle.rule_meaning.specs.Env.{at_place, env}
 use Rattle.rule_meaning.specs.Fit.{IsFit, component_count}
-use Rattle.rule_meaning.specs.Parts.{all_weaken, if_parts}
+use Rattle.list_laws.specs.AllLaws.{all_each}
+use Rattle.list_laws.specs.OptionLaws.{if_some}
 use Rattle.rule_meaning.specs.Views.{IsView, kind_width}
 use Rattle.rule_meaning.specs.Walked.{Agrees, IsWalked, Says, walked}
 
@@ -80,7 +81,7 @@ walk_of : (s : Shader) (rule : Rule) (variant : ℕ) (value : ValueId) (binds : 
 unfolding match_of
 walk_of s rule variant value binds formed eight found =
     let views = root_view s.body value ∷ [] in
-    let parts = if_parts (is_typed rule (met s.body rule.search variant views)) (option_map all_bound (matches s.body rule.search variant views (replicate rule.vars None))) binds found in
+    let parts = if_some (is_typed rule (met s.body rule.search variant views)) (option_map all_bound (matches s.body rule.search variant views (replicate rule.vars None))) binds found in
     let bound = some_map all_bound (matches s.body rule.search variant views (replicate rule.vars None)) binds parts.1 in
     record {
       bound = bound.0;
@@ -131,7 +132,7 @@ module _ (s : Shader) (rule : Rule) (variant : ℕ) (value : ValueId) (kind : Ki
 
   -- as many views as the rule has variables, each of a value in the set
   pub match_bound : (length binds ≡ rule.vars) × AllByRecursion (λ bind. set bind.value.0 ≡ true) binds
-  match_bound = (match_count, all_weaken (IsView s.body set (component_count s.body value)) (λ bind. set bind.value.0 ≡ true) binds (λ bind is. is.inside) match_views)
+  match_bound = (match_count, all_each (IsView s.body set (component_count s.body value)) (λ bind. set bind.value.0 ≡ true) (λ bind is. is.inside) binds match_views)
 
   pub match_width : kind.width ≡ W8
   match_width = kind_width s.body value kind h.kind_is (root_eight s rule variant value binds h.formed h.eight h.found)

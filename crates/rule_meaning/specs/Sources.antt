@@ -24,7 +24,7 @@ use Rattle.rule_term.specs.Rule.{Rule}
 use Rattle.nir_search.specs.declared.hit.Bind.{Bind}
 use Rattle.nir_search.specs.Match.{child, children, has_op, match_of, root_view, swapped}
 use Rattle.nir_search.specs.Put.{bound_to}
-use Rattle.rewrite_pass.specs.BoundViews.{GoesDown, match_bound}
+use Rattle.rule_meaning.specs.BoundViews.{GoesDown, match_bound}
 use Rattle.nir_validate.specs.OneBlock.{IsRead}
 use Rattle.nir_validate.specs.Edges.{Set}
 use Rattle.nir_mean.specs.Points.{Closed}
@@ -32,7 +32,8 @@ use Rattle.nir_mean.specs.OneBlock.{ValidBlock}
 use Rattle.rule_meaning.specs.Fit.{component_count}
 use Rattle.rule_meaning.specs.Fitting.{fit_valid, valid_fits}
 use Rattle.rule_meaning.specs.Matched.{root_eight, root_is_view}
-use Rattle.rule_meaning.specs.Parts.{all_both, all_map}
+use Rattle.list_laws.specs.AllLaws.{all_map}
+use Rattle.rule_meaning.specs.Parts.{all_both}
 use Rattle.rule_meaning.specs.Views.{IsAlu, IsView, all_read, all_swapped, alu_found, alu_kind, alu_sources, children_count, children_views, kind_width}
 
 -- all values

@@ -17,25 +17,22 @@ use Rattle.rule_term.specs.EightBitLaws.{eight_is_typing}
 use Rattle.rule_term.specs.Formed.{IsFormed}
 use Rattle.rule_term.specs.Holds.{Holds}
 use Rattle.rule_term.specs.Rule.{Rule}
-use Rattle.rule_term.specs.Table.{AllHold, hold_at}
+use Rattle.rule_term.specs.Table.{AllFormed, AllHold, hold_at}
 use Rattle.nir_search.specs.declared.hit.Bind.{Bind}
 use Rattle.nir_search.specs.declared.hit.Hit.{Hit}
 use Rattle.nir_search.specs.First.{first_hit}
 use Rattle.nir_search.specs.Match.{match_of}
-use Rattle.nir_search.specs.Steps.{is_of, put, put_hit, replay, rule_step, step_of}
-use Rattle.rewrite_pass.specs.BoundViews.{between, if_found}
-use Rattle.rewrite_pass.specs.Built.{is_built, is_leaf}
-use Rattle.rewrite_pass.specs.Hits.{all_at, matched, put_leaf, shaped_put}
-use Rattle.rewrite_pass.specs.StepLaws.{first_from_table, rule_there}
+use Rattle.nir_search.specs.Steps.{IsHit, is_of, put, put_hit, replay, rule_step, step_of}
+use Rattle.list_laws.specs.AllLaws.{passes_at}
+use Rattle.list_laws.specs.OptionLaws.{between, if_some}
+use Rattle.nir_search.specs.Built.{is_built, is_leaf}
+use Rattle.rule_meaning.specs.Hits.{matched, put_leaf, shaped_put}
+use Rattle.nir_search.specs.FirstLaws.{first_from_table, rule_there}
 use Rattle.nir_mean.specs.Points.{defining_target}
 use Rattle.nir_mean.specs.Replaced.{same_replaced, valid_replaced, with_instr}
 use Rattle.nir_mean.specs.Same.{Same, Same-refl, Same-trans}
 use Rattle.nir_mean.specs.OneBlock.{ValidBlock}
 use Rattle.rule_meaning.specs.StepValue.{IsFound, new, new_fits, new_place, new_reads, new_same, old}
-
--- each rule is formed
-abbrev pub AllFormed : List Rule → Type 0
-AllFormed rules = AllByRecursion IsFormed rules
 
 -- the shader after is shaped and valid, and means what the one before means
 abbrev pub Keeps : Shader → Shader → Type 0
@@ -77,16 +74,24 @@ put_keeps s after rule variant value binds shaped valid formed holds built found
       same_replaced s value before behind shaped valid place (new_same s rule variant value binds h),
     )
 
+-- what was found at a value, put there
+pub hit_keeps : (table : List Rule) (s after : Shader) (value : ValueId) (hit : Hit) (rule : Rule) → list_all is_built table ≡ true → IsFormed rule → Holds rule → slice_get table hit.rule ≡ Some rule
+    → IsHit table s.body value hit → IsShaped s → put_hit table s value hit ≡ Some after → ValidBlock s → Keeps s after
+hit_keeps table s after value hit rule built formed holds at is shaped is_put valid =
+    put_keeps s after rule hit.variant value hit.subst shaped valid formed holds (passes_at is_built table hit.rule rule built at)
+    (sym (ap (option_and_then (λ r. match_of r hit.variant s.body value)) at) ∙ is)
+    (sym (ap (option_and_then (λ r. put r hit.variant s value hit.subst)) at) ∙ is_put)
+
 rule_keeps : (options : Options) (table : List Rule) (s after : Shader) (value : ValueId) (number variant : ℕ) → list_all is_built table ≡ true → AllFormed table → AllHold table → IsShaped s → ValidBlock s
     → rule_step options table s value number variant ≡ Some after → Keeps s after
 rule_keeps options table s after value number variant built formed holds shaped valid legal =
     let first = between (first_hit options table s.body value) (λ hit. if is_of table number variant hit then put_hit table s value hit else None) after legal in
     let hit : Hit = first.middle in
-    let own = if_found (is_of table number variant hit) (put_hit table s value hit) after first.behind in
+    let own = if_some (is_of table number variant hit) (put_hit table s value hit) after first.behind in
     let from = first_from_table options table s.body value hit first.before in
     let at = rule_there table s.body value hit from in
     put_keeps s after from.rule hit.variant value hit.subst shaped valid (formed_at table hit.rule from.rule formed at) (hold_at table hit.rule from.rule holds at)
-    (all_at is_built table hit.rule from.rule built at) from.matches_there
+    (passes_at is_built table hit.rule from.rule built at) from.matches_there
     (sym (ap (option_and_then (λ rule. put rule hit.variant s value hit.subst)) at) ∙ own.1)
 
 -- a legal step keeps the shader shaped and valid, and what it means

@@ -29,8 +29,8 @@ use Rattle.rule_term.specs.Terms.{Terms, Nil, VarThen, LitThen, AppThen}
 use Rattle.nir_search.specs.declared.hit.Bind.{Bind}
 use Rattle.nir_search.specs.Match.{match_of}
 use Rattle.nir_search.specs.Put.{bound_to, view_source}
-use Rattle.rewrite_pass.specs.Built.{is_leaf}
-use Rattle.rewrite_pass.specs.Leaf.{leaf_instr, target_leaf, var_below}
+use Rattle.nir_search.specs.Built.{is_leaf}
+use Rattle.rule_meaning.specs.Leaf.{leaf_instr, target_leaf, var_below}
 use Rattle.nir_mean.specs.Block.{KnownAt, known-next}
 use Rattle.nir_validate.specs.OneBlock.{IsRead}
 use Rattle.nir_validate.specs.Edges.{Set}

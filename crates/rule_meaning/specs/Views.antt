@@ -41,8 +41,10 @@ use Rattle.nir_mean.specs.Points.{Closed}
 use Rattle.nir_mean.specs.Values.{Values, alu_mean, read, source_sizes}
 use Rattle.rule_meaning.specs.Env.{at_place}
 use Rattle.rule_meaning.specs.Fit.{IsFit, IsInside, component_count}
-use Rattle.rule_meaning.specs.Parts.{all_at, all_both, all_map, all_weaken, found_passes, passes_at}
-use Rattle.rule_meaning.specs.Swaps.{op_mean_swapped}
+use Rattle.list_laws.specs.AllLaws.{all_at, all_each, all_map}
+use Rattle.list_laws.specs.OptionLaws.{found_passes}
+use Rattle.rule_meaning.specs.Parts.{all_both, passes_at}
+use Rattle.rule_term.specs.SwapLaws.{op_mean_swapped}
 
 pub record IsView (body : Nodes) (set : Set) (count : ℕ) (view : Bind) : Type 0 where
   pub inside : set view.value.0 ≡ true
@@ -215,9 +217,9 @@ module _ (s : Shader) (shaped : IsShaped s) (set : Set) (closed : Closed s.body 
     inside = own;
     places = length-map view.comps (λ c. slice_index src.swizzle c) ∙ is.places;
     comps = all_map (λ c. slice_index src.swizzle c) (λ c. c < component_count s.body src.value) view.comps
-        (all_weaken (λ c. c < component_count s.body view.value) (λ c. slice_index src.swizzle c < component_count s.body src.value) view.comps
+        (all_each (λ c. c < component_count s.body view.value) (λ c. slice_index src.swizzle c < component_count s.body src.value)
         (λ c less. all_at (λ n. n < component_count s.body src.value) src.swizzle c inside (subst (λ n. c < n) (value_count ∙ sym long) less))
-        is.comps);
+        view.comps is.comps);
   }
 
   -- the views of the sources are views again, as many as the opcode has sources
@@ -244,7 +246,7 @@ module _ (s : Shader) (shaped : IsShaped s) (set : Set) (closed : Closed s.body 
       let here : place < length view.comps = subst (λ n. place < n) (sym is.places) within in
       let c = slice_index view.comps place in
       let there : c < alu.kind.count = subst (λ n. c < n) value_count (all_at (λ n. n < component_count s.body view.value) view.comps place is.comps here) in
-      let long = all_weaken (λ src. length src.swizzle ≡ alu.kind.count) (λ src. c < length src.swizzle) alu.srcs (λ src e. subst (λ n. c < n) (sym e) there) has_counts in
+      let long = all_each (λ src. length src.swizzle ≡ alu.kind.count) (λ src. c < length src.swizzle) (λ src e. subst (λ n. c < n) (sym e) there) alu.srcs has_counts in
       ap (λ l. op_mean op 8 8 (map (at_place values place) l)) (alu_sources s.body op flag view alu)
       ∙ ap (op_mean op 8 8) (map_of_map (child view.comps) (at_place values place) (swapped flag alu.srcs))
       ∙ swapped_mean op 8 8 (λ src. at_place values place (child view.comps src)) flag alu.srcs commutes

@@ -42,7 +42,8 @@ use Rattle.nir_mean.specs.Values.{Values}
 use Rattle.rule_meaning.specs.Bound.{AreViews, Extends, IsBound, IsBoundTo, IsTaken, taken}
 use Rattle.rule_meaning.specs.Env.{at_place}
 use Rattle.rule_meaning.specs.Fit.{IsFit}
-use Rattle.rule_meaning.specs.Parts.{all_append, all_weaken, and_then_parts, if_parts, pass_append}
+use Rattle.list_laws.specs.AllLaws.{all_append, all_each, passes_append}
+use Rattle.list_laws.specs.OptionLaws.{between, if_some}
 use Rattle.rule_meaning.specs.Views.{IsView, children_count, children_views, eight_word, op_value, viewed_word}
 
 -- each variable that is bound has what stands in the place of its view
@@ -135,7 +136,7 @@ module _ (body : Nodes) (set : Set) (values : Values) (known : IsKnown body set 
       extends = λ k other at. more.extends k other (under.extends k other at);
       views_kept = λ all. more.views_kept (under.views_kept all);
       named = subst (AllByRecursion (IsBound after)) (sym (flat_map-append var_of (pieces args) (pieces rest)))
-          (all_append (IsBound after) (vars_of args) (vars_of rest) (all_weaken (IsBound mid) (IsBound after) (vars_of args) (λ var at. (at.0, more.extends var at.0 at.1)) under.named) more.named);
+          (all_append (IsBound after) (vars_of args) (vars_of rest) (all_each (IsBound mid) (IsBound after) (λ var at. (at.0, more.extends var at.0 at.1)) (vars_of args) under.named) more.named);
       says = λ words place within agrees.
           let behind = more.says words place within agrees in
           let inner = under.says words place within (λ var other at. agrees var other (more.extends var other at)) in
@@ -175,19 +176,19 @@ module _ (s : Shader) (shaped : IsShaped s) (set : Set) (values : Values) (known
   walked (VarThen var constant size cond rest) n bits [] before after enough formed eights long all widths h = absurd (omega (arith, long))
   walked (VarThen var constant size cond rest) zero bits (view ∷ views) before after enough formed eights long all widths h = absurd (omega (arith, enough))
   walked (VarThen var constant size cond rest) (suc n) bits (view ∷ views) before after enough formed eights long all widths h =
-      let chosen = if_parts (is_taken s.body constant cond view) (option_and_then (matches s.body rest bits views) (bind var view before)) after h in
-      let step = and_then_parts (matches s.body rest bits views) (bind var view before) after chosen.1 in
+      let chosen = if_some (is_taken s.body constant cond view) (option_and_then (matches s.body rest bits views) (bind var view before)) after h in
+      let step = between (bind var view before) (matches s.body rest bits views) after chosen.1 in
       let sizes = and_parts (same_width W8 (width_at s.body view.value)) (list_all (same_width W8) (met s.body rest bits views)) widths in
-      walked_var s.body set values known count n view views all.0 (sym (same_width-same W8 (width_at s.body view.value) sizes.0)) var constant size cond rest before step.0 after chosen.0
-      (taken s.body set count var view before step.0 step.1)
-      (walked rest n bits views step.0 after (omega (arith, enough))
+      walked_var s.body set values known count n view views all.0 (sym (same_width-same W8 (width_at s.body view.value) sizes.0)) var constant size cond rest before step.middle after chosen.0
+      (taken s.body set count var view before step.middle step.before)
+      (walked rest n bits views step.middle after (omega (arith, enough))
       (and_parts true (list_all search_piece_formed (pieces rest)) formed).1
       (and_parts (eight_or_none size) (list_all eight_piece (pieces rest)) eights).1
-      (suc_inj long) all.1 sizes.1 step.2)
+      (suc_inj long) all.1 sizes.1 step.behind)
   walked (LitThen value boolean rest) n bits [] before after enough formed eights long all widths h = absurd (omega (arith, long))
   walked (LitThen value boolean rest) zero bits (view ∷ views) before after enough formed eights long all widths h = absurd (omega (arith, enough))
   walked (LitThen value boolean rest) (suc n) bits (view ∷ views) before after enough formed eights long all widths h =
-      let chosen = if_parts (is_literal s.body value view) (matches s.body rest bits views before) after h in
+      let chosen = if_some (is_literal s.body value view) (matches s.body rest bits views before) after h in
       let sizes = and_parts (same_width W8 (width_at s.body view.value)) (list_all (same_width W8) (met s.body rest bits views)) widths in
       walked_lit s.body set values known count n view views all.0 (sym (same_width-same W8 (width_at s.body view.value) sizes.0)) value boolean rest before after chosen.0
       (walked rest n bits views before after (omega (arith, enough))
@@ -201,20 +202,20 @@ module _ (s : Shader) (shaped : IsShaped s) (set : Set) (values : Values) (known
       let sources = children s.body flag view in
       let inner = bits_left op bits in
       let behind = bits_behind args inner in
-      let chosen = if_parts (is_applied s.body op once view) (option_and_then (matches s.body rest behind views) (matches s.body args inner sources before)) after h in
-      let step = and_then_parts (matches s.body rest behind views) (matches s.body args inner sources before) after chosen.1 in
+      let chosen = if_some (is_applied s.body op once view) (option_and_then (matches s.body rest behind views) (matches s.body args inner sources before)) after h in
+      let step = between (matches s.body args inner sources before) (matches s.body rest behind views) after chosen.1 in
       let applied = (and_parts (has_op op (alu_at s.body view.value)) (if once then nat_eq (use_count view.value s.body) 1 else true) chosen.0).0 in
       let sizes = and_parts (same_width W8 (width_at s.body view.value)) (list_all (same_width W8) (met s.body args inner sources ++ met s.body rest behind views)) widths in
-      let under = pass_append (same_width W8) (met s.body args inner sources) (met s.body rest behind views) sizes.1 in
+      let under = passes_append (same_width W8) (met s.body args inner sources) (met s.body rest behind views) sizes.1 in
       let eight = sym (same_width-same W8 (width_at s.body view.value) sizes.0) in
       let form = and_parts (may_stand op && nat_eq (terms_count args) (length (op_info op).inputs)) (list_all search_piece_formed (pieces args ++ pieces rest)) formed in
       let own = and_parts (may_stand op) (nat_eq (terms_count args) (length (op_info op).inputs)) form.0 in
-      let forms = pass_append search_piece_formed (pieces args) (pieces rest) form.1 in
+      let forms = passes_append search_piece_formed (pieces args) (pieces rest) form.1 in
       let each = and_parts (is_unsized op && eight_or_none size) (list_all eight_piece (pieces args ++ pieces rest)) eights in
       let unsized = (and_parts (is_unsized op) (eight_or_none size) each.0).0 in
-      let both = pass_append eight_piece (pieces args) (pieces rest) each.1 in
+      let both = passes_append eight_piece (pieces args) (pieces rest) each.1 in
       let count_is : length sources ≡ terms_count args = children_count s shaped set known.closed fit count op view all.0 applied own.0 flag ∙ sym (eqb-true (terms_count args) (length (op_info op).inputs) own.1) in
-      walked_app s.body set values known count n view views all.0 eight op size once args rest sources before step.0 after unsized
+      walked_app s.body set values known count n view views all.0 eight op size once args rest sources before step.middle after unsized
       (λ place within. op_value s shaped set known.closed fit count op view all.0 applied own.0 values known flag place (λ e. (and_parts (is_commutative op) (nat_eq (bits % 2) 1) e).0) unsized eight within)
-      (walked args n inner sources before step.0 (omega (arith, enough)) forms.0 both.0 count_is (children_views s shaped set known.closed fit count op view all.0 applied own.0 flag) under.0 step.1)
-      (walked rest (n - size_of args) behind views step.0 after (omega (arith, enough)) forms.1 both.1 (suc_inj long) all.1 under.1 step.2)
+      (walked args n inner sources before step.middle (omega (arith, enough)) forms.0 both.0 count_is (children_views s shaped set known.closed fit count op view all.0 applied own.0 flag) under.0 step.before)
+      (walked rest (n - size_of args) behind views step.middle after (omega (arith, enough)) forms.1 both.1 (suc_inj long) all.1 under.1 step.behind)

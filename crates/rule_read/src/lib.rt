@@ -18,6 +18,3 @@ pub use derivation::{Binding, Bindings, Derivation, DeriveStep, Path};
 pub use entry::{Entries, Entry, Line, Lines, Proof, WeightLine, Weights};
 pub use read::read_rules;
 pub use rule_file::RuleFile;
-
-#[cfg(test)]
-mod tests;

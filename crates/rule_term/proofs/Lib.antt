@@ -1,4 +1,3 @@
-pub mod BuildLemmas
 pub mod DescendingLemmas
 pub mod EightLemmas
 pub mod FormedLemmas

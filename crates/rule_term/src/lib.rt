@@ -7,15 +7,11 @@ mod eight;
 mod formed;
 mod nodes;
 mod replace;
-#[cfg(test)]
-mod replace_tests;
 mod rule;
 mod search_sizes;
 mod side;
 mod table;
 mod term;
-#[cfg(test)]
-mod tests;
 mod typing;
 mod value;
 mod variant;

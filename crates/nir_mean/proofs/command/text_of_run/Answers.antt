@@ -1,5 +1,3 @@
-use Rattle.std.proofs.Common.{ℕ, subst, ◌<◌}
-use Rattle.std.specs.List.{AllByRecursion}
 use Rattle.nir_validate.specs.TypedLaws.{typed-from_valid}
 use Rattle.nir_mean.proofs.FitLemmas.{buffers_from, inputs_from}
 use Rattle.nir_mean.proofs.command.text_of_run.Goals as goal
@@ -11,7 +9,4 @@ pub evaluate-requires-clause-inputs : goal.evaluate-requires-clause-inputs
 evaluate-requires-clause-inputs c = inputs_from c.args.given.now c.args.shader.now c.requires.fits
 
 pub evaluate-requires-clause-buffers : goal.evaluate-requires-clause-buffers
-evaluate-requires-clause-buffers c = record {
-  count = buffers_from c.args.given.now c.args.shader.now c.requires.fits;
-  bytes = subst (AllByRecursion (AllByRecursion (λ (byte : ℕ). byte < 256))) c.as_slice.ensures c.hold_bytes.ensures;
-}
+evaluate-requires-clause-buffers c = buffers_from c.args.given.now c.args.shader.now c.requires.fits

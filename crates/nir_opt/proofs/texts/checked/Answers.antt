@@ -1,6 +1,6 @@
 use Rattle.std.proofs.Common.{◌≡◌, sym, subst, true}
 use Rattle.std.specs.List.{list_all}
-use Rattle.rewrite_pass.specs.Built.{is_built}
+use Rattle.nir_search.specs.Built.{is_built}
 use Rattle.nir_opt.proofs.RunLemmas.{all_built, first_entries}
 use Rattle.nir_opt.proofs.texts.checked.Goals as goal
 

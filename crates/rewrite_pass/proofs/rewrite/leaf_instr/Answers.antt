@@ -10,7 +10,7 @@ use Rattle.nir_ir.specs.declared.instr.Instr.TheVariants.{Alu, Const}
 use Rattle.rule_term.specs.Terms.{Terms, Nil, before, before-var, before-lit, before-app}
 use Rattle.nir_search.specs.declared.hit.Bind.{Bind}
 use Rattle.nir_search.specs.Put.{root_of}
-use Rattle.rewrite_pass.specs.Built.{is_leaf}
+use Rattle.nir_search.specs.Built.{is_leaf}
 use Rattle.rewrite_pass.proofs.rewrite.leaf_instr.Goals as goal
 
 pub unreachable-requires : goal.unreachable-requires

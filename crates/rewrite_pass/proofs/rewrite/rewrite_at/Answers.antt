@@ -8,9 +8,11 @@ use Rattle.nir_search.specs.declared.hit.Bind.{Bind}
 use Rattle.rule_term.specs.Formed.{IsFormed}
 use Rattle.nir_search.specs.Put.{root_of}
 use Rattle.nir_search.specs.Weight.{weight_of}
-use Rattle.rewrite_pass.specs.Built.{is_leaf}
-use Rattle.rewrite_pass.specs.Leaf.{instrs_leaf, leaf_instr}
-use Rattle.rewrite_pass.specs.Hits.{hit_says, put_instr, with_instr}
+use Rattle.rule_term.specs.Weights.{initial_weight}
+use Rattle.rule_meaning.specs.StepSame.{hit_keeps}
+use Rattle.nir_search.specs.Built.{is_leaf}
+use Rattle.rule_meaning.specs.Leaf.{instrs_leaf, leaf_instr}
+use Rattle.rule_meaning.specs.Hits.{hit_says, put_instr, with_instr}
 use Rattle.rewrite_pass.proofs.rewrite.rewrite_at.Goals as goal
 
 -- the instruction that was made is that of the same parts
@@ -56,4 +58,15 @@ returns-clause-lighter c =
     (subst IsShaped c.shader.view_is c.shader.invariant) (subst IsFormed c.rule.view_is c.rule.invariant) c.requires.built c.rule-rule.ensures.value c.requires.hit in
     let same : c.in_ok-instr.instr ≡ put_instr c.rule-rule.result.now c.args.shader c.args.value c.args.hit.now.subst =
     leaf_same _ _ _ _ _ _ _ _ says.leaf c.in_ok-instr.ensures c.as_slice.ensures c.count_at-count.ensures.count (ap (λ r. r.replace) c.rule.view_is) in
-    ap (λ after. weight_of after + 1) c.set_instr.ensures ∙ ap (λ instr. weight_of (with_instr c.args.shader c.args.value instr) + 1) same ∙ says.lighter
+    ap (λ after. weight_of initial_weight after + 1) c.set_instr.ensures
+    ∙ ap (λ instr. weight_of initial_weight (with_instr c.args.shader c.args.value instr) + 1) same ∙ says.lighter
+
+pub returns-clause-valid : goal.returns-clause-valid
+returns-clause-valid c = λ valid.
+    (hit_keeps c.args.table.now.rules c.args.shader c.set_instr.result c.args.value c.args.hit.now c.rule-rule.result.now c.requires.built (subst IsFormed c.rule.view_is c.rule.invariant)
+    c.rule-rule.ensures.holds c.rule-rule.ensures.value c.requires.hit (subst IsShaped c.shader.view_is c.shader.invariant) (returns-clause-put c) valid).1
+
+pub returns-clause-same : goal.returns-clause-same
+returns-clause-same c = λ valid.
+    (hit_keeps c.args.table.now.rules c.args.shader c.set_instr.result c.args.value c.args.hit.now c.rule-rule.result.now c.requires.built (subst IsFormed c.rule.view_is c.rule.invariant)
+    c.rule-rule.ensures.holds c.rule-rule.ensures.value c.requires.hit (subst IsShaped c.shader.view_is c.shader.invariant) (returns-clause-put c) valid).2

@@ -1,5 +1,5 @@
 use Rattle.std.proofs.lemmas.Option.{slice_get_within}
-use Rattle.rewrite_pass.specs.StepLaws.{first_from_table, first_hits, rule_there}
+use Rattle.nir_search.specs.FirstLaws.{first_from_table, first_hits, rule_there}
 use Rattle.rewrite_pass.proofs.rounds.rewrite_found.Goals as goal
 
 pub rule-requires : goal.rule-requires

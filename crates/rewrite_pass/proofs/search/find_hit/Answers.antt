@@ -1,6 +1,6 @@
 use Rattle.std.proofs.Common.{◌≡◌, ap, subst, arith}
 use Rattle.nir_ir.specs.Shaped.{IsShaped}
-use Rattle.rewrite_pass.specs.StepLaws.{settled_below}
+use Rattle.nir_search.specs.FirstLaws.{settled_below}
 use Rattle.rewrite_pass.proofs.search.find_hit.Goals as goal
 
 pub returns : goal.returns

@@ -11,7 +11,7 @@ loop-number-init c = first_difference-all c.args.rule.now c.args.typing.now.widt
 
 pub differs-requires-clause-values : goal.differs-requires-clause-values
 differs-requires-clause-values c =
-    ap length (c.as_slice.ensures ∙ c.tuple_at-values.ensures)
+    ap length (c.as_slice.ensures.value ∙ c.tuple_at-values.ensures)
     ∙ count_of_tuple c.args.rule.now c.args.typing.now.widths c.args.bits.now c.loop-number.number c.requires.bits
 
 pub differs-requires-clause-words : goal.differs-requires-clause-words
@@ -19,7 +19,7 @@ differs-requires-clause-words c =
     let below : c.loop-number.number < (1 * 2 ^ c.total-free.result) % 2 ^ 64 = c.loop-number-test.true in
     let whole : (1 * 2 ^ c.total-free.result) % 2 ^ 64 ≡ 2 ^ c.total-free.result = one_shl c.total-free.result 64 (omega arith) in
     let small : c.loop-number.number < 2 ^ sum c.args.bits.now = subst (λ n. c.loop-number.number < 2 ^ n) c.total-free.ensures (subst (λ n. c.loop-number.number < n) whole below) in
-    ap (are_words c.args.rule.now c.args.typing.now.widths) (c.as_slice.ensures ∙ c.tuple_at-values.ensures)
+    ap (are_words c.args.rule.now c.args.typing.now.widths) (c.as_slice.ensures.value ∙ c.tuple_at-values.ensures)
     ∙ words_of_number c.args.rule.now c.args.typing.now.widths c.args.bits.now c.loop-number.number c.requires.bits c.requires.typing small
 
 pub loop-number-preserved : goal.loop-number-preserved
@@ -28,5 +28,5 @@ loop-number-preserved c =
     let whole : (1 * 2 ^ c.total-free.result) % 2 ^ 64 ≡ 2 ^ c.total-free.result = one_shl c.total-free.result 64 (omega arith) in
     let small : c.loop-number.number < 2 ^ sum c.args.bits.now = subst (λ n. c.loop-number.number < 2 ^ n) c.total-free.ensures (subst (λ n. c.loop-number.number < n) whole below) in
     sym (find_next (differs_at c.args.rule.now c.args.typing.now.widths) (tuple c.args.bits.now) c.loop-number.number (2 ^ sum c.args.bits.now) small
-    (ap (differs_at c.args.rule.now c.args.typing.now.widths) (sym (c.as_slice.ensures ∙ c.tuple_at-values.ensures)) ∙ sym c.differs.ensures ∙ c.if-differs.false))
+    (ap (differs_at c.args.rule.now c.args.typing.now.widths) (sym (c.as_slice.ensures.value ∙ c.tuple_at-values.ensures)) ∙ sym c.differs.ensures ∙ c.if-differs.false))
     ∙ c.loop-number.invariant

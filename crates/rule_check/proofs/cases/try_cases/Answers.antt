@@ -1,4 +1,4 @@
-use Rattle.std.proofs.Common.{◌≤◌, ap, ◌∙◌, arith, length, Some, None}
+use Rattle.std.proofs.Common.{◌≡◌, ◌≤◌, ap, sym, ◌∙◌, arith, length, Some, None, rules}
 use Rattle.std.specs.List.{sum}
 use Rattle.rule_check.proofs.Trials.{free_bits-le, trial-many, trial-few}
 use Rattle.rule_check.proofs.cases.try_cases.Goals as goal
@@ -13,10 +13,11 @@ pub returns-then-total-gt-MOST_BITS : goal.returns-then-total-gt-MOST_BITS
 returns-then-total-gt-MOST_BITS c =
     trial-many c.args.rule.now c.args.typing.now.widths c.total.result (c.total.ensures ∙ ap sum (c.as_slice.ensures.value ∙ c.bits_of_vars-bits.ensures)) c.if-total-gt-MOST_BITS.true
 
-pub returns-in-Some : goal.returns-in-Some
-returns-in-Some c =
-    trial-few c.args.rule.now c.args.typing.now.widths c.total.result (Some c.in-Some.values)
-    (c.total.ensures ∙ ap sum (c.as_slice.ensures.value ∙ c.bits_of_vars-bits.ensures)) c.if-total-gt-MOST_BITS.false c.in-Some.ensures
+pub returns-in_ok-values-in-Some : goal.returns-in_ok-values-in-Some
+returns-in_ok-values-in-Some c =
+    trial-few c.args.rule.now c.args.typing.now.widths c.total.result (Some c.in_ok-values-in-Some.values)
+    (c.total.ensures ∙ ap sum (c.as_slice.ensures.value ∙ c.bits_of_vars-bits.ensures)) c.if-total-gt-MOST_BITS.false
+    (ap Some (c.in_ok-values-in-Some.ensures ∙ c.as_slice-in-Some.ensures.value) ∙ c.in-Some.ensures)
 
 pub returns-in-None : goal.returns-in-None
 returns-in-None c =

@@ -6,8 +6,8 @@ use Rattle.rule_check.proofs.cases.tuple_at.Given as goal
 
 abbrev pub invariant-loop-width : goal.invariant-loop-width
 invariant-loop-width l = record {
-  made : l.values ++ tuple (drop l.width-index l.bits) l.rest ≡ tuple l.bits l.number;
+  made : l.values.items ++ tuple (drop l.width-index l.bits) l.rest ≡ tuple l.bits l.number;
   left : l.left ≡ sum (drop l.width-index l.bits);
   few : l.left ≤ 16;
-  count : length l.values ≡ l.width-index;
+  count : length l.values.items ≡ l.width-index;
 }

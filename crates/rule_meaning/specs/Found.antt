@@ -4,6 +4,7 @@ use Rattle.std.proofs.Common.{◌∙◌, ap}
 use Rattle.std.proofs.lemmas.Option.{none-some, same_Some}
 use Rattle.std.specs.List.{AllByRecursion, flat_map}
 use Rattle.std.specs.Option.{option_and_then}
+use Rattle.list_laws.specs.AllLaws.{all_back, all_front}
 use Rattle.nir_ops.specs.declared.op.Op.{Op}
 use Rattle.nir_ir.specs.declared.ids.ValueId.{ValueId}
 use Rattle.nir_ir.specs.declared.kind.Kind.{Kind}
@@ -16,15 +17,6 @@ use Rattle.nir_ir.specs.Found.{found_all}
 use Rattle.nir_ir.specs.Nodes.{Nodes}
 use Rattle.nir_ir.specs.Shader.{Shader}
 use Rattle.nir_ir.specs.Shaped.{IsOneOf, IsShaped, IsShapedInstr, IsShapedItem}
-
--- what holds of a second list holds of it alone
-all_back : {A : Type 0} (P : A → Type 0) (first second : List A) → AllByRecursion P (first ++ second) → AllByRecursion P second
-all_back P [] second h = h
-all_back P (a ∷ first) second h = all_back P first second h.1
-
-all_front : {A : Type 0} (P : A → Type 0) (first second : List A) → AllByRecursion P (first ++ second) → AllByRecursion P first
-all_front P [] second h = tt
-all_front P (a ∷ first) second h = (h.0, all_front P first second h.1)
 
 -- shaped, and what it reads is one of those values
 abbrev pub IsSound : List ℕ → Instr → Type 0

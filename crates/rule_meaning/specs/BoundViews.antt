@@ -9,6 +9,8 @@ use Rattle.std.proofs.lemmas.Option.{none-some, same_Some}
 use Rattle.std.proofs.lemmas.Slice.Eq.{bytes_eq-Decides}
 use Rattle.std.specs.List.{AllByRecursion, flat_map, list_all}
 use Rattle.std.specs.Option.{option_and_then, option_map}
+use Rattle.list_laws.specs.OptionLaws.{Mapped, between, if_some, mapped}
+use Rattle.list_laws.specs.PlaceLaws.{get_set_other, get_set_same}
 use Rattle.nir_ops.specs.declared.op.Op.{Op}
 use Rattle.nir_ops.specs.declared.width.Width.{Width}
 use Rattle.nir_ir.specs.declared.ids.ValueId.{ValueId}
@@ -23,29 +25,6 @@ use Rattle.rule_term.specs.Variants.{bits_behind, bits_left, is_swapped}
 use Rattle.nir_search.specs.Match.{all_bound, bind, bind_slot, children, is_applied, is_literal, is_taken, is_typed, match_of, matches, met, root_view, same_view}
 use Rattle.nir_search.specs.Put.{bound_to}
 
--- what was answered under a test, and after a first answer
-pub if_found : {A : Type 0} (test : Bool) (o : Option A) (a : A) → (if test then o else None) ≡ Some a → (test ≡ true) × (o ≡ Some a)
-if_found true o a h = (refl, h)
-if_found false o a h = absurd (none-some a h)
-
-pub record Between {A B : Type 0} (first : Option A) (f : A → Option B) (b : B) : Type 0 where
-  pub middle : A
-  pub before : first ≡ Some middle
-  pub behind : f middle ≡ Some b
-
-pub between : {A B : Type 0} (first : Option A) (f : A → Option B) (b : B) → option_and_then f first ≡ Some b → Between first f b
-between None f b h = absurd (none-some b h)
-between (Some a) f b h = record { middle = a; before = refl; behind = h }
-
-pub record Mapped {A B : Type 0} (f : A → B) (first : Option A) (b : B) : Type 0 where
-  pub middle : A
-  pub before : first ≡ Some middle
-  pub behind : f middle ≡ b
-
-pub mapped : {A B : Type 0} (f : A → B) (first : Option A) (b : B) → option_map f first ≡ Some b → Mapped f first b
-mapped f None b h = absurd (none-some b h)
-mapped f (Some a) b h = record { middle = a; before = refl; behind = same_Some (f a) b h }
-
 -- the slot holds a view of which this is so
 abbrev IsFilledSlot : (Bind → Type 0) → Option (Option Bind) → Type 0
 IsFilledSlot P None = ⊥
@@ -55,18 +34,6 @@ IsFilledSlot P (Some (Some view)) = P view
 -- the slots below a number do
 abbrev pub AreFilled : (Bind → Type 0) → ℕ → List (Option Bind) → Type 0
 AreFilled P n bound = (k : ℕ) → k < n → IsFilledSlot P (slice_get bound k)
-
-get_set_same : {A : Type 0} (list : List A) (at : ℕ) (old new : A) → slice_get list at ≡ Some old → slice_get (slice_set list at new) at ≡ Some new
-get_set_same [] at old new h = absurd (none-some old h)
-get_set_same (a ∷ list) zero old new h = refl
-get_set_same (a ∷ list) (suc at) old new h = get_set_same list at old new h
-
-get_set_other : {A : Type 0} (list : List A) (at other : ℕ) (new : A) → (other ≡ at → ⊥) → slice_get (slice_set list at new) other ≡ slice_get list other
-get_set_other [] at other new differ = refl
-get_set_other (a ∷ list) zero zero new differ = absurd (differ refl)
-get_set_other (a ∷ list) zero (suc other) new differ = refl
-get_set_other (a ∷ list) (suc at) zero new differ = refl
-get_set_other (a ∷ list) (suc at) (suc other) new differ = get_set_other list at other new (λ e. differ (ap suc e))
 
 same_views : (a b : Bind) → same_view a b ≡ true → a ≡ b
 same_views a b h =
@@ -134,7 +101,7 @@ bind_reaches P vars var next more view bound after (Some None) filled is at h go
     subst (Reached P vars more) (same_Some (slice_set bound var (Some view)) after h)
     (new_slot P vars var next more view bound filled is at (nat_lt var next) refl goes)
 bind_reaches P vars var next more view bound after (Some (Some old)) filled is at h goes =
-    let found = if_found (same_view old view) (Some bound) after h in
+    let found = if_some (same_view old view) (Some bound) after h in
     let same : old ≡ view = same_views old view found.0 in
     subst (Reached P vars more) (same_Some bound after found.1)
     (old_slot P vars var next more view bound filled is (at ∙ ap (λ v. Some (Some v)) same) (nat_lt var next) refl goes)
@@ -167,17 +134,17 @@ matches_reach s good P down vars (VarThen var constant size cond rest) next more
 matches_reach s good P down vars (LitThen value boolean rest) next more bits [] bound after formed all long goes filled h = absurd (omega (arith, long))
 matches_reach s good P down vars (AppThen op size once args rest) next more bits [] bound after formed all long goes filled h = absurd (omega (arith, long))
 matches_reach s good P down vars (VarThen var constant size cond rest) next more bits (view ∷ views) bound after formed all long goes filled h =
-    let taken = if_found (is_taken s.body constant cond view) (option_and_then (matches s.body rest bits views) (bind var view bound)) after h in
+    let taken = if_some (is_taken s.body constant cond view) (option_and_then (matches s.body rest bits views) (bind var view bound)) after h in
     let two = between (bind var view bound) (matches s.body rest bits views) after taken.1 in
     let here = bind_reaches P vars var next (vars_of rest ++ more) view bound two.middle (slice_get bound var) filled all.0 refl two.before goes in
     matches_reach s good P down vars rest here.next more bits views two.middle after (and_parts (good (VarPiece var constant size cond)) (list_all good (pieces rest)) formed).1 all.1 (omega (arith, long)) here.numbered here.filled two.behind
 matches_reach s good P down vars (LitThen value boolean rest) next more bits (view ∷ views) bound after formed all long goes filled h =
-    let same = if_found (is_literal s.body value view) (matches s.body rest bits views bound) after h in
+    let same = if_some (is_literal s.body value view) (matches s.body rest bits views bound) after h in
     matches_reach s good P down vars rest next more bits views bound after (and_parts (good (LitPiece value boolean)) (list_all good (pieces rest)) formed).1 all.1 (omega (arith, long)) goes filled same.1
 matches_reach s good P down vars (AppThen op size once args rest) next more bits (view ∷ views) bound after formed all long goes filled h =
     let behind : ℕ = bits_behind args (bits_left op bits) in
     let inner : List Bind = children s.body (is_swapped op bits) view in
-    let applied = if_found (is_applied s.body op once view) (option_and_then (matches s.body rest behind views) (matches s.body args (bits_left op bits) inner bound)) after h in
+    let applied = if_some (is_applied s.body op once view) (option_and_then (matches s.body rest behind views) (matches s.body args (bits_left op bits) inner bound)) after h in
     let two = between (matches s.body args (bits_left op bits) inner bound) (matches s.body rest behind views) after applied.1 in
     let parts = and_parts (good (AppPiece op size once (terms_count args))) (list_all good (pieces args ++ pieces rest)) formed in
     let both = and_parts (list_all good (pieces args)) (list_all good (pieces rest)) (sym (list_all-append good (pieces args) (pieces rest)) ∙ parts.1) in
@@ -215,7 +182,7 @@ bound_from s good P down vars (AppThen op size once args rest) bits view after a
     let begun : List (Option Bind) = replicate vars None in
     let behind : ℕ = bits_behind args (bits_left op bits) in
     let inner : List Bind = children s.body (is_swapped op bits) view in
-    let applied = if_found (is_applied s.body op once view) (option_and_then (matches s.body rest behind []) (matches s.body args (bits_left op bits) inner begun)) after h in
+    let applied = if_some (is_applied s.body op once view) (option_and_then (matches s.body rest behind []) (matches s.body args (bits_left op bits) inner begun)) after h in
     let two = between (matches s.body args (bits_left op bits) inner begun) (matches s.body rest behind []) after applied.1 in
     let last : rest ≡ Nil = no_terms rest (suc_inj one) in
     let ended : two.middle ≡ after = same_Some two.middle after (sym (ap (λ terms. matches s.body terms behind [] two.middle) last) ∙ two.behind) in
@@ -237,7 +204,7 @@ pub walk_of : (rule : Rule) (variant : ℕ) (body : Nodes) (value : ValueId) (bi
 unfolding match_of
 walk_of rule variant body value binds h =
     let views : List Bind = root_view body value ∷ [] in
-    let found = if_found (is_typed rule (met body rule.search variant views)) (option_map all_bound (matches body rule.search variant views (replicate rule.vars None))) binds h in
+    let found = if_some (is_typed rule (met body rule.search variant views)) (option_map all_bound (matches body rule.search variant views (replicate rule.vars None))) binds h in
     record { typed = found.0; walk = mapped all_bound (matches body rule.search variant views (replicate rule.vars None)) binds found.1 }
 
 -- where a rule matches, each of its variables is bound to a view of which that is so which goes down from the root

@@ -2,13 +2,17 @@
 use Rattle.op_eval.specs.Calls.{same_width}
 use Rattle.std.specs.Prelude.{◌≡◌, refl, ◌+◌, ℕ, zero, suc, List, [], ◌∷◌, ◌++◌, length, replicate, Option, Some, None, Bool, true, false, not, ◌&&◌, ◌||◌, cond, nat_eq, slice_get}
 use Rattle.std.proofs.Common.{sym, ◌∙◌, ap, subst, arith}
-use Rattle.std.proofs.lemmas.Bool.{and_parts, false≢true, cond-true}
+use Rattle.std.proofs.lemmas.Bool.{and_parts, false≢true, true≢false, cond-true}
 use Rattle.std.proofs.lemmas.List.{drop-replicate}
 use Rattle.std.proofs.lemmas.Option.{none-some, same_Some}
 use Rattle.std.specs.List.{find, list_all, list_any}
 use Rattle.std.specs.Option.{option_and_then, option_map, option_map_or, option_or}
 use Rattle.std.specs.Cmp.Lexicographic.{pointwise}
+use Rattle.list_laws.specs.AllLaws.{passes_at}
+use Rattle.list_laws.specs.BoolLaws.{or_false}
+use Rattle.list_laws.specs.OptionLaws.{if_some}
 use Rattle.nir_ops.specs.declared.op.Op.{Op}
+use Rattle.nir_ops.specs.declared.op.Op.TheVariants.{Mov}
 use Rattle.nir_ops.specs.Opcodes.{op_info}
 use Rattle.nir_ops.specs.contracts.op.Op as op_row
 use denote.Enum.Bare.{same_true}
@@ -34,20 +38,20 @@ use Rattle.rule_term.specs.Pieces.{pieces, terms_count}
 use Rattle.rule_term.specs.Rule.{Rule}
 use Rattle.rule_term.specs.Terms.{Terms, Nil, VarThen, LitThen, AppThen}
 use Rattle.rule_term.specs.Typings.{replace_part, search_part, size_of}
+use Rattle.rule_term.specs.Weights.{initial_weight}
 use Rattle.op_eval.specs.Views.{shape_of}
 use Rattle.nir_search.specs.declared.hit.Bind.{Bind}
 use Rattle.nir_search.specs.declared.hit.Hit.{Hit}
 use Rattle.rule_term.specs.Variants.{bits_behind, bits_left, is_swapped}
 use Rattle.nir_search.specs.Match.{children, has_op, is_applied, is_typed, match_of, matches, met, root_view}
 use Rattle.nir_search.specs.Put.{root_of, put_root}
-use Rattle.nir_search.specs.Steps.{count_of, put, put_hit, put_typed, typing_with}
+use Rattle.nir_search.specs.Steps.{IsHit, count_of, put, put_hit, put_typed, typing_with}
 use Rattle.nir_search.specs.Weight.{instr_weight, weight_of}
-use Rattle.rewrite_pass.specs.Built.{is_built, is_leaf}
-use Rattle.rewrite_pass.specs.Rewriting.{IsHit}
-use Rattle.rewrite_pass.specs.BoundViews.{if_found, match_bound, walk_of}
-use Rattle.rewrite_pass.specs.Found.{FoundAlu, found_alu, found_sound}
-use Rattle.rewrite_pass.specs.Leaf.{AreBound, leaf_instr, reads_leaf, root_leaf, shaped_leaf, target_leaf, weight_leaf}
-use Rattle.rewrite_pass.specs.SourceViews.{IsView, sources_down, whole_swizzle}
+use Rattle.nir_search.specs.Built.{is_built, is_leaf}
+use Rattle.rule_meaning.specs.BoundViews.{match_bound, walk_of}
+use Rattle.rule_meaning.specs.Found.{FoundAlu, found_alu, found_sound}
+use Rattle.rule_meaning.specs.Leaf.{AreBound, leaf_instr, reads_leaf, root_leaf, shaped_leaf, target_leaf, weight_leaf}
+use Rattle.rule_meaning.specs.SourceViews.{IsView, sources_down, whole_swizzle}
 
 -- The instruction at which a rule matches is an ALU instruction that is no move, and the variables of the rule are bound.
 
@@ -98,7 +102,7 @@ root_from s shaped value Nil bits view before after own application formed h = a
 root_from s shaped value (VarThen var constant size cond rest) bits view before after own application formed h = absurd (false≢true application)
 root_from s shaped value (LitThen number boolean rest) bits view before after own application formed h = absurd (false≢true application)
 root_from s shaped value (AppThen op size once args rest) bits view before after own application formed h =
-    let applied = if_found (is_applied s.body op once view) (option_and_then (matches s.body rest (bits_behind args (bits_left op bits)) []) (matches s.body args (bits_left op bits) (children s.body (is_swapped op bits) view) before)) after h in
+    let applied = if_some (is_applied s.body op once view) (option_and_then (matches s.body rest (bits_behind args (bits_left op bits)) []) (matches s.body args (bits_left op bits) (children s.body (is_swapped op bits) view) before)) after h in
     let parts = and_parts (may_stand op && nat_eq (terms_count args) (length (op_info op).inputs)) (list_all search_piece_formed (pieces args ++ pieces rest)) formed in
     let here = and_parts (may_stand op) (nat_eq (terms_count args) (length (op_info op).inputs)) parts.0 in
     root_of_alu s shaped value op (alu_at s.body value) refl (ap (λ v. has_op op (alu_at s.body v)) (sym own) ∙ (and_parts _ _ applied.0).0) (stands_no_move op here.0)
@@ -115,16 +119,12 @@ matched s shaped rule formed variant value binds h =
 
 -- The replacement of a built rule is put at 8 bits.
 
-or_false : (test : Bool) → (test || false) ≡ true → test ≡ true
-or_false true h = refl
-or_false false h = h
-
 typing_eight : (rule : Rule) → IsFormed rule → is_eight_bit rule ≡ true → (widths : List Width) → is_typed rule widths ≡ true → typing_with rule widths ≡ Some (all_eight rule)
 unfolding is_typed
 typing_eight rule formed eight widths h =
     let test : List Width → Bool = λ typing. pointwise same_width (search_part rule typing) widths in
     let only = eight_typings rule formed eight in
-    let passes : test (all_eight rule) ≡ true = or_false (test (all_eight rule)) (sym (ap (list_any test) only) ∙ h) in
+    let passes : test (all_eight rule) ≡ true = sym (or_false (test (all_eight rule))) ∙ sym (ap (list_any test) only) ∙ h in
     ap (find test) only ∙ cond-true (test (all_eight rule)) (Some (all_eight rule)) None passes
 
 replace_eight : (rule : Rule) → replace_part rule (all_eight rule) ≡ replicate (size_of rule.replace) W8
@@ -154,33 +154,34 @@ shaped_put s shaped rule formed value binds matched =
     (shaped_leaf (values_defined s.body) binds rule.vars value (count_of s value) rule.replace matched.root.count matched.bound formed.replace)
     shaped
 
-pub lighter_put : (s : Shader) → IsShaped s → (rule : Rule) (value : ValueId) (binds : List Bind) → IsRoot s value → weight_of (with_instr s value (put_instr rule s value binds)) + 1 ≡ weight_of s
+-- where no weight was set an opcode weighs 1, and a move nothing
+weighs : (op : Op) → is_mov op ≡ false → initial_weight op ≡ 1
+weighs Mov h = absurd (true≢false h)
+weighs op h = refl
+
+pub lighter_put : (s : Shader) → IsShaped s → (rule : Rule) (value : ValueId) (binds : List Bind) → IsRoot s value
+    → weight_of initial_weight (with_instr s value (put_instr rule s value binds)) + 1 ≡ weight_of initial_weight s
 lighter_put s shaped rule value binds root =
     let new : Instr = put_instr rule s value binds in
     let old : Instr = Alu root.instr.id root.op root.instr.kind root.srcs in
-    let changed : weight_of s + instr_weight new ≡ weight_of (with_instr s value new) + instr_weight old = sum_by-replaced instr_weight value new old s.body shaped.values root.instr.is in
-    let heavy : instr_weight old ≡ 1 = ap (λ test. cond test 0 1) root.no_move in
-    let light : instr_weight new ≡ 0 = weight_leaf binds value (count_of s value) rule.replace in
+    let changed : weight_of initial_weight s + instr_weight initial_weight new ≡ weight_of initial_weight (with_instr s value new) + instr_weight initial_weight old =
+    sum_by-replaced (instr_weight initial_weight) value new old s.body shaped.values root.instr.is in
+    let heavy : instr_weight initial_weight old ≡ 1 = weighs root.op root.no_move in
+    let light : instr_weight initial_weight new ≡ 0 = weight_leaf binds value (count_of s value) rule.replace in
     omega (arith, changed, heavy, light)
-
--- what holds of all holds at a place
-pub all_at : {A : Type 0} (test : A → Bool) (list : List A) (at : ℕ) (a : A) → list_all test list ≡ true → slice_get list at ≡ Some a → test a ≡ true
-all_at test [] at a all found = absurd (none-some a found)
-all_at test (first ∷ list) zero a all found = ap test (sym (same_Some first a found)) ∙ (and_parts _ _ all).0
-all_at test (first ∷ list) (suc at) a all found = all_at test list at a (and_parts _ _ all).1 found
 
 -- all that a hit of a rule says
 pub record HitSays (table : List Rule) (s : Shader) (value : ValueId) (hit : Hit) (rule : Rule) : Type 0 where
   pub leaf : is_leaf rule.replace ≡ true
   pub shaped : IsShaped (with_instr s value (put_instr rule s value hit.subst))
   pub put : put_hit table s value hit ≡ Some (with_instr s value (put_instr rule s value hit.subst))
-  pub lighter : weight_of (with_instr s value (put_instr rule s value hit.subst)) + 1 ≡ weight_of s
+  pub lighter : weight_of initial_weight (with_instr s value (put_instr rule s value hit.subst)) + 1 ≡ weight_of initial_weight s
 
 pub hit_says : (table : List Rule) (s : Shader) (value : ValueId) (hit : Hit) (rule : Rule) → IsShaped s → IsFormed rule → list_all is_built table ≡ true → slice_get table hit.rule ≡ Some rule → IsHit table s.body value hit → HitSays table s value hit rule
 hit_says table s value hit rule shaped formed built at is =
     let matches_here : match_of rule hit.variant s.body value ≡ Some hit.subst = sym (ap (option_and_then (λ r. match_of r hit.variant s.body value)) at) ∙ is in
     let all = matched s shaped rule formed hit.variant value hit.subst matches_here in
-    let one : is_built rule ≡ true = all_at is_built table hit.rule rule built at in
+    let one : is_built rule ≡ true = passes_at is_built table hit.rule rule built at in
     record {
       leaf = (and_parts _ _ one).1;
       shaped = shaped_put s shaped rule formed value hit.subst all;

@@ -17,8 +17,8 @@ use Rattle.nir_search.specs.declared.hit.Bind.{Bind}
 use Rattle.nir_ir.specs.Definitions.{alu_at}
 use Rattle.rule_term.specs.Formed.{may_stand, search_piece_formed}
 use Rattle.nir_search.specs.Match.{child, children, children_of, has_op, is_applied, swapped}
-use Rattle.rewrite_pass.specs.BoundViews.{GoesDown}
-use Rattle.rewrite_pass.specs.Found.{found_alu, found_sound}
+use Rattle.rule_meaning.specs.BoundViews.{GoesDown}
+use Rattle.rule_meaning.specs.Found.{found_alu, found_sound}
 
 -- the view could stand as a source in the shader
 pub record IsView (defined : List ℕ) (view : Bind) : Type 0 where

@@ -22,8 +22,9 @@ use Rattle.rule_term.specs.Typings.{size_of}
 use Rattle.nir_search.specs.declared.hit.Bind.{Bind}
 use Rattle.nir_search.specs.Put.{bound_to, const_instr, root_of, view_source}
 use Rattle.nir_search.specs.Weight.{instr_weight}
-use Rattle.rewrite_pass.specs.Built.{is_leaf}
-use Rattle.rewrite_pass.specs.SourceViews.{IsView}
+use Rattle.rule_term.specs.Weights.{initial_weight}
+use Rattle.nir_search.specs.Built.{is_leaf}
+use Rattle.rule_meaning.specs.SourceViews.{IsView}
 
 -- the instruction, at 8 bits; of other replacements nothing is made
 abbrev pub leaf_instr : List Bind → ValueId → ℕ → Terms → Instr
@@ -53,7 +54,7 @@ target_leaf binds value count (VarThen var constant size cond rest) = refl
 target_leaf binds value count (LitThen number boolean rest) = refl
 target_leaf binds value count (AppThen op size once args rest) = refl
 
-pub weight_leaf : (binds : List Bind) (value : ValueId) (count : ℕ) (leaf : Terms) → instr_weight (leaf_instr binds value count leaf) ≡ 0
+pub weight_leaf : (binds : List Bind) (value : ValueId) (count : ℕ) (leaf : Terms) → instr_weight initial_weight (leaf_instr binds value count leaf) ≡ 0
 weight_leaf binds value count Nil = refl
 weight_leaf binds value count (VarThen var constant size cond rest) = refl
 weight_leaf binds value count (LitThen number boolean rest) = refl

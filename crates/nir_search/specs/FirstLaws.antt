@@ -1,4 +1,4 @@
--- From what is found first to a legal step, and from steps to a list of them.
+-- What is found first is found by a rule of the table and matches, nothing is found where nothing is found below a bound, and lists of steps one after another.
 use Rattle.std.specs.Prelude.{◌≡◌, refl, ◌<◌, ◌+◌, ℕ, suc, List, [], ◌∷◌, ◌++◌, length, Option, Some, None, Bool, true, is_none, slice_get}
 use Rattle.std.proofs.Common.{◌∙◌, ap, subst, append_assoc, arith}
 use Rattle.std.proofs.lemmas.Bool.{and_from, and_parts}
@@ -21,10 +21,9 @@ use Rattle.nir_search.specs.declared.hit.Hit.{Hit}
 use Rattle.nir_search.specs.First.{first_from, first_hit, first_variant, hit_of}
 use Rattle.rule_term.specs.Variants.{variant_count}
 use Rattle.nir_search.specs.Match.{match_of}
-use Rattle.nir_search.specs.Steps.{is_settled, replay, step_of}
-use Rattle.rewrite_pass.specs.Built.{is_built, is_leaf}
-use Rattle.rewrite_pass.specs.Rewriting.{IsHit, Rewrites}
-use Rattle.rewrite_pass.specs.BoundViews.{if_found}
+use Rattle.nir_search.specs.Steps.{IsHit, is_settled, replay, step_of}
+use Rattle.nir_search.specs.Built.{is_built, is_leaf}
+use Rattle.list_laws.specs.OptionLaws.{if_some}
 
 -- what holds of each that passes a first test
 all_pass : {A : Type 0} (first second : A → Bool) → ((a : A) → first a ≡ true → second a ≡ true) → (list : List A) → list_all first list ≡ true → list_all second list ≡ true
@@ -83,7 +82,7 @@ from_is options place [] body value hit h = absurd (none-some hit h)
 from_is options place (rule ∷ rules) body value hit h =
     either (IsFrom place (rule ∷ rules) body value) (hit_of options rule place body value) (first_from options (suc place) rules body value) hit
     (λ b is.
-    let here = first_is rule place body value (range_with_len 0 (variant_count rule)) b (if_found (when_holds options rule.when) (first_variant rule place body value (range_with_len 0 (variant_count rule))) b is).1 in
+    let here = first_is rule place body value (range_with_len 0 (variant_count rule)) b (if_some (when_holds options rule.when) (first_variant rule place body value (range_with_len 0 (variant_count rule))) b is).1 in
     record { distance = 0; rule = rule; place_is = here.0 ∙ omega arith; at = refl; matches_there = here.1 })
     (λ is.
     let behind = from_is options (suc place) rules body value hit is in
@@ -108,18 +107,8 @@ and_then-along : {A B C : Type 0} (f : A → Option B) (g : B → Option C) (h :
 and_then-along f g h same None = refl
 and_then-along f g h same (Some a) = same a
 
-replay-append : (options : Options) (table : List Rule) (s : Shader) (first second : List Step) → replay options table s (first ++ second) ≡ option_and_then (λ middle. replay options table middle second) (replay options table s first)
+pub replay-append : (options : Options) (table : List Rule) (s : Shader) (first second : List Step) → replay options table s (first ++ second) ≡ option_and_then (λ middle. replay options table middle second) (replay options table s first)
 replay-append options table s [] second = refl
 replay-append options table s (one ∷ first) second =
     and_then-along (λ t. replay options table t first) (λ middle. replay options table middle second) (λ t. replay options table t (first ++ second))
     (λ t. replay-append options table t first second) (step_of options table s one)
-
-pub rewrites_then : (options : Options) (table : List Rule) (a b c : Shader) (first second third : List Step) (m n : ℕ) → Rewrites options table a b first second m → Rewrites options table b c second third n
-    → Rewrites options table a c first third (m + n)
-rewrites_then options table a b c first second third m n before behind = record {
-  done = before.done ++ behind.done;
-  told = behind.told ∙ ap (λ l. l ++ behind.done) before.told ∙ append_assoc first before.done behind.done;
-  legal = replay-append options table a before.done behind.done ∙ ap (option_and_then (λ middle. replay options table middle behind.done)) before.legal ∙ behind.legal;
-  number = length-append before.done behind.done ∙ ap (λ k. k + length behind.done) before.number ∙ ap (λ k. m + k) behind.number;
-  weight = let one = before.weight in let two = behind.weight in omega (arith, one, two);
-}
