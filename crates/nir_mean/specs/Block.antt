@@ -1,8 +1,8 @@
 -- The central fact on one block: where its instructions have run, each value that is defined so far has what its instruction makes of its sources, as many components and as wide as its kind says.
-use Rattle.std.specs.Prelude.{◌≡◌, refl, ◌<◌, ◌^◌, ℕ, zero, suc, Bool, true, false, ◌||◌, nat_eq, List, [], ◌∷◌, ◌++◌, length, map, replicate, Option, Some, None, slice_get, slice_index}
+use Rattle.std.specs.Prelude.{◌≡◌, refl, ◌<◌, ◌≤◌, ◌^◌, ℕ, zero, suc, Bool, true, false, ◌||◌, nat_eq, List, [], ◌∷◌, ◌++◌, length, map, replicate, Option, Some, None, slice_get, slice_index}
 use Rattle.std.specs.List.{AllByRecursion, slice_index_or}
 use Rattle.std.specs.Option.{option_map_or}
-use Rattle.std.proofs.Common.{sym, ◌∙◌, ap, subst}
+use Rattle.std.proofs.Common.{sym, ◌∙◌, ap, subst, arith}
 use Rattle.std.proofs.lemmas.Bool.{ne_eqb, true≢false}
 use Rattle.std.proofs.lemmas.List.{length-replicate}
 use Rattle.std.proofs.lemmas.Nat.{pow_pos}
@@ -14,12 +14,12 @@ use Rattle.nir_ir.specs.declared.kind.Kind.{Kind}
 use Rattle.nir_ir.specs.declared.instr.Instr.{Instr}
 use Rattle.nir_ir.specs.declared.instr.Instr.TheVariants.{Alu, Const, Undef, Input, Output, LoadBuf, StoreBuf}
 use Rattle.nir_ir.specs.declared.instr.Src.{Src}
-use Rattle.nir_ir.specs.Definitions.{instr_defining, kind_at, kind_of_target, width_at}
+use Rattle.nir_ir.specs.Definitions.{Kinds, instr_defining, kind_at, kind_of_target, width_in}
 use Rattle.nir_ir.specs.Found.{found_shaped}
 use Rattle.nir_ir.specs.Items.{target}
 use Rattle.nir_ir.specs.Nodes.{Nodes}
 use Rattle.nir_ir.specs.Shader.{Shader}
-use Rattle.nir_ir.specs.Shaped.{IsShaped, IsShapedInstr}
+use Rattle.nir_ir.specs.Shaped.{IsShaped, IsShapedInstr, IsSwizzle}
 use Rattle.nir_mean.specs.Bytes.{BuffersHold, load_kind, store_holds}
 use Rattle.nir_mean.specs.Known.{Equation, HasKind, IsKnown}
 use Rattle.nir_validate.specs.Edges.{Set}
@@ -29,7 +29,9 @@ use Rattle.nir_mean.specs.Reads.{SourceOf, Equation-same, Equation-value, kind_o
 use Rattle.nir_mean.specs.Run.{Setting, kind_of, run_instr, run_instrs, scalar, value_of, world_of}
 use Rattle.nir_mean.specs.Same.{InputsFit}
 use Rattle.nir_mean.specs.State.{State, with_target, with_value, zeros}
-use Rattle.nir_validate.specs.Typed.{InstrFits}
+use Rattle.nir_validate.specs.Rules.{count_in}
+use Rattle.nir_validate.specs.OneBlock.{IsRead}
+use Rattle.nir_validate.specs.Typed.{FitsIn, InstrFits, NamesComponents}
 use Rattle.nir_validate.specs.OneBlock.{InstrsValid, ReadsIn}
 use Rattle.nir_validate.specs.Edges.{no_values, set_after, with_member}
 use Rattle.nir_mean.specs.Values.{Values, alu_mean, read, source_sizes}
@@ -60,38 +62,51 @@ input_kind (first ∷ kinds) [] slot kind fit is = absurd fit
 input_kind (first ∷ kinds) (comps ∷ inputs) zero kind fit is = subst (λ (k : Kind). HasKind k comps) (same_Some first kind is) fit.0
 input_kind (first ∷ kinds) (comps ∷ inputs) (suc slot) kind fit is = input_kind kinds inputs slot kind fit.1 is
 
--- what an opcode makes of values that are known
-sources_fit : (body : Nodes) (values : Values) (srcs : List Src) → ((id : ValueId) → SourceOf srcs id → AreWords (width_bits (width_at body id)) (values id.0)) → SourcesFit (source_sizes (kind_at body) srcs) (map (read values) srcs)
-sources_fit body values [] h = tt
-sources_fit body values (src ∷ srcs) h = (
-  are_words-map (width_bits (width_at body src.value)) (λ c. slice_index (values src.value.0) c) src.swizzle (h src.value (0, refl)),
-  sources_fit body values srcs (λ id at. h id (suc at.0, at.1)),
+-- each value that an instruction reads has the components that its kind says
+abbrev pub ReadsHave : Kinds → Instr → Values → Type 0
+ReadsHave kinds instr values = (id : ValueId) (kind : Kind) → IsRead instr id → kinds id ≡ Some kind → HasKind kind (values id.0)
+
+-- a source names components that its value has, so its value has a kind
+source_words : (kinds : Kinds) (values : Values) (id : ValueId) (swizzle : List ℕ) → 1 ≤ length swizzle → AllByRecursion (λ entry. entry < count_in kinds id) swizzle
+    → ((kind : Kind) → kinds id ≡ Some kind → HasKind kind (values id.0)) → AreWords (width_bits (width_in kinds id)) (values id.0)
+source_words kinds values id [] some names h = absurd (omega (arith, some))
+source_words kinds values id (entry ∷ swizzle) some names h = by (kinds id) refl where
+  by : (found : Option Kind) → kinds id ≡ found → AreWords (width_bits (width_in kinds id)) (values id.0)
+  by None is =
+      let within : entry < 0 = subst (λ (found : Option Kind). entry < option_map_or (λ kind. kind.count) found 0) is names.0 in
+      absurd (omega (arith, within))
+  by (Some kind) is = subst (λ (found : Option Kind). AreWords (width_bits (option_map_or (λ kind. kind.width) found W1)) (values id.0)) (sym is) (h kind is).words
+
+-- what an opcode makes of values that have their kinds
+sources_fit : (kinds : Kinds) (values : Values) (srcs : List Src) → AllByRecursion (λ src. IsSwizzle src.swizzle) srcs → AllByRecursion (NamesComponents kinds) srcs
+    → ((id : ValueId) (kind : Kind) → SourceOf srcs id → kinds id ≡ Some kind → HasKind kind (values id.0)) → SourcesFit (source_sizes kinds srcs) (map (read values) srcs)
+sources_fit kinds values [] swizzles names h = tt
+sources_fit kinds values (src ∷ srcs) swizzles names h = (
+  are_words-map (width_bits (width_in kinds src.value)) (λ c. slice_index (values src.value.0) c) src.swizzle
+      (source_words kinds values src.value src.swizzle swizzles.0.some names.0 (λ kind is. h src.value kind (0, refl) is)),
+  sources_fit kinds values srcs swizzles.1 names.1 (λ id kind at is. h id kind (suc at.0, at.1) is),
 )
 
-known_words : (s : Shader) (set : Set) (state : State) (id : ValueId) → KnownAt s set state → set id.0 ≡ true → AreWords (width_bits (width_at s.body id)) (state.values id.0)
-known_words s set state id known inside =
-    let kind = known.defined id inside in
-    subst (λ (found : Option Kind). AreWords (width_bits (option_map_or (λ kind. kind.width) found W1)) (state.values id.0)) (sym kind.1) (known.values.kinds id kind.0 inside kind.1).words
-
 -- the components of a value, where there is one
-abbrev KindOf : Option Kind → List ℕ → Type 0
+abbrev pub KindOf : Option Kind → List ℕ → Type 0
 KindOf None comps = Unit {0}
 KindOf (Some kind) comps = HasKind kind comps
 
-made_kind : (s : Shader) (inputs : List (List ℕ)) (repeats : ℕ) (instr : Instr) (set : Set) (state : State)
-    → InputsFit s.inputs inputs → IsShapedInstr instr → InstrFits s instr → ReadsIn set instr → KnownAt s set state
-    → KindOf (kind_of_target instr) (value_of (setting s inputs repeats) instr state)
+-- what an instruction makes has the kind of its value, where it fits the kinds and what it reads has them
+pub made_kind : (m : Setting) (inputs outputs : List Kind) (buffers : ℕ) (instr : Instr) (state : State)
+    → InputsFit inputs m.inputs → IsShapedInstr instr → FitsIn m.kinds inputs outputs buffers instr → ReadsHave m.kinds instr state.values → BuffersHold state.world.buffers
+    → KindOf (kind_of_target instr) (value_of m instr state)
 unfolding alu_mean
-made_kind s inputs repeats (Alu id op kind srcs) set state given shaped fits reads known =
-    view_kind op kind (source_sizes (kind_at s.body) srcs) (map (λ src. length src.swizzle) srcs) (map (read state.values) srcs) fits.widths fits.counts
-    (sources_fit s.body state.values srcs (λ source at. known_words s set state source known (reads source at)))
-made_kind s inputs repeats (Const id kind comps) set state given shaped fits reads known =
+made_kind m inputs outputs buffers (Alu id op kind srcs) state given shaped fits reads hold =
+    view_kind op kind (source_sizes m.kinds srcs) (map (λ src. length src.swizzle) srcs) (map (read state.values) srcs) fits.widths fits.counts
+    (sources_fit m.kinds state.values srcs shaped.2 fits.names reads)
+made_kind m inputs outputs buffers (Const id kind comps) state given shaped fits reads hold =
     record { count = shaped.1.count; words = words_all (width_bits kind.width) comps shaped.1.words }
-made_kind s inputs repeats (Undef id kind) set state given shaped fits reads known = zeros_kind kind
-made_kind s inputs repeats (Input id kind slot) set state given shaped fits reads known = input_kind s.inputs inputs slot kind given fits
-made_kind s inputs repeats (Output effect slot src) set state given shaped fits reads known = tt
-made_kind s inputs repeats (LoadBuf id kind buffer offset) set state given shaped fits reads known = load_kind state.world kind buffer (scalar state.values offset) known.bytes
-made_kind s inputs repeats (StoreBuf effect buffer offset src) set state given shaped fits reads known = tt
+made_kind m inputs outputs buffers (Undef id kind) state given shaped fits reads hold = zeros_kind kind
+made_kind m inputs outputs buffers (Input id kind slot) state given shaped fits reads hold = input_kind inputs m.inputs slot kind given fits
+made_kind m inputs outputs buffers (Output effect slot src) state given shaped fits reads hold = tt
+made_kind m inputs outputs buffers (LoadBuf id kind buffer offset) state given shaped fits reads hold = load_kind state.world kind buffer (scalar state.values offset) hold
+made_kind m inputs outputs buffers (StoreBuf effect buffer offset src) state given shaped fits reads hold = tt
 
 -- what an instruction makes for its value has the value's kind
 pub value_kind : (s : Shader) (inputs : List (List ℕ)) (repeats : ℕ) (instr : Instr) (set : Set) (state : State) (id : ValueId) (kind : Kind)
@@ -99,7 +114,8 @@ pub value_kind : (s : Shader) (inputs : List (List ℕ)) (repeats : ℕ) (instr 
     → HasKind kind (value_of (setting s inputs repeats) instr state)
 value_kind s inputs repeats instr set state id kind shaped given fits reads known defined is =
     subst (λ (found : Option Kind). KindOf found (value_of (setting s inputs repeats) instr state)) is
-    (made_kind s inputs repeats instr set state given (found_shaped s shaped id instr defined) fits reads known)
+    (made_kind (setting s inputs repeats) s.inputs s.outputs s.buffers instr state given (found_shaped s shaped id instr defined) fits
+    (λ source of at is. known.values.kinds source of (reads source at) is) known.bytes)
 
 -- the buffers hold bytes after each instruction
 pub world_holds : (s : Setting) (instr : Instr) (state : State) → BuffersHold state.world.buffers → BuffersHold (world_of s instr state).buffers

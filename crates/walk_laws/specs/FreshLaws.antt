@@ -51,6 +51,8 @@ AreNew set (instr ∷ instrs) = IsNew set instr × AreNew (set_after instr set) 
 pub record BlockNew (b : Block) (edges : List Edge) : Type 0 where
   pub phis : ArePhisNew (meet edges) b.phis
   pub instrs : AreNew (set_after_phis b.phis (meet edges)) b.instrs
+  -- also in the set of each edge by which the block is entered
+  pub out : AllByRecursion (EdgeOut (block_defines b)) edges
 
 abbrev pub WithNew : (Block → List Edge → List Edge → Type 0) → Block → List Edge → List Edge → Type 0
 WithNew G b edges all = G b edges all × (IsReached edges → BlockNew b edges)
@@ -180,6 +182,7 @@ block_new b edges distinct reached out =
       phis = phis_new b.phis (meet edges) (distinct-front phis instrs distinct) (out-front phis instrs (meet edges) all);
       instrs = instrs_new b.instrs (set_after_phis b.phis (meet edges)) (distinct-back phis instrs distinct)
           (phis_out instrs b.phis (meet edges) (out-back phis instrs (meet edges) all) (apart-swap phis instrs (distinct-apart phis instrs distinct)));
+      out = out;
     }
 
 pub fresh_each : (G : Block → List Edge → List Edge → Type 0) (H : ValueId → List Edge → Type 0) (nodes : Nodes) (edges back : List Edge)

@@ -174,7 +174,7 @@ block_takes s value old news after h b p q here reached =
     let makes = block_makes s.body b here.0.1 in
     instrs_take s value old news after h b.instrs (set_after_phis b.phis (meet p)) (phis_closed (made_by s.body) b.phis (meet p) makes.phis (here.1 reached)) here.0.1.instrs makes.instrs (here.0.0 reached).1
 
-replaced-changed : (value : ValueId) (news : List Instr) (nodes : Nodes) → replaced value news nodes ≡ changed (in_places (in_place_of value news)) nodes
+pub replaced-changed : (value : ValueId) (news : List Instr) (nodes : Nodes) → replaced value news nodes ≡ changed (in_places (in_place_of value news)) nodes
 replaced-changed value news Nil = refl
 replaced-changed value news (BlockThen b rest) = ap (BlockThen (record { id = b.id; phis = b.phis; instrs = flat_map (in_place_of value news) b.instrs; jump = b.jump })) (replaced-changed value news rest)
 replaced-changed value news (IfThen id condition first second rest) =
