@@ -15,11 +15,11 @@ use Rattle.nir_ops.specs.declared.width.Width.TheVariants.{W1, W8}
 use Rattle.nir_ops.specs.Opcodes.{op_info}
 use Rattle.nir_ops.specs.Width.{width_bits}
 use Rattle.op_eval.specs.declared.shape.Shape.TheVariants.{EachPlace}
-use Rattle.op_eval.specs.Calls.{per_component, sizes_fit, unsized_width}
+use Rattle.op_eval.specs.Calls.{Fits, per_component, sizes_fit, unsized_width}
 use Rattle.op_eval.specs.Sizes.{sizes_fit-from_Fits}
 use Rattle.nir_ops.specs.declared.width.Width.{Width}
 use Rattle.op_eval.specs.Meaning.{op_mean}
-use Rattle.op_eval.specs.Views.{column, count_at, shape_mean, shape_of, view_mean}
+use Rattle.op_eval.specs.Views.{CountsFit, column, count_at, shape_mean, shape_of, view_mean}
 use Rattle.nir_ir.specs.declared.ids.ValueId.{ValueId}
 use Rattle.nir_ir.specs.declared.kind.Kind.{Kind}
 use Rattle.nir_ir.specs.declared.instr.Instr.{Instr}
@@ -186,12 +186,11 @@ unsized_swapped op dst f true (a ∷ b ∷ rest) h fit =
 unsized_swapped op dst f false srcs h fit = refl
 
 -- an opcode that works place by place asks for as many components of each source as there are places
-source_counts : (body : Nodes) (value : ValueId) (op : Op) (set : Set) (fit : IsFit body set) (alu : IsAlu body value op) → set value.0 ≡ true → may_stand op ≡ true → AllByRecursion (λ src. length src.swizzle ≡ alu.kind.count) alu.srcs
+source_counts : (op : Op) (kind : Kind) (srcs : List Src) → CountsFit op kind.count (map (λ src. length src.swizzle) srcs) → may_stand op ≡ true → AllByRecursion (λ src. length src.swizzle ≡ kind.count) srcs
 unfolding per_component
-source_counts body value op set fit alu inside stands =
-    each_counts (op_info op).inputs alu.srcs alu.kind.count
-    (and_parts ((op_info op).out_count == 0) (list_all (λ input. input.count == 0) (op_info op).inputs) (per_component-from_may_stand op stands)).1
-    (fit.counts value op alu.kind alu.srcs inside alu.found).sources
+source_counts op kind srcs counts stands =
+    each_counts (op_info op).inputs srcs kind.count
+    (and_parts ((op_info op).out_count == 0) (list_all (λ input. input.count == 0) (op_info op).inputs) (per_component-from_may_stand op stands)).1 counts.sources
 
 module _ (body : Nodes) (set : Set) (values : Values) (known : IsKnown body set values) where
   -- what stands in a place of a view is a word of its value's bit size
@@ -221,59 +220,47 @@ module _ (body : Nodes) (set : Set) (values : Values) (known : IsKnown body set 
   pub viewed_word : (count : ℕ) (test : ℕ → Bool) (view : Bind) (place : ℕ) → IsView body set count view → place < count → viewed_const test (const_at body view.value) view ≡ true → test (at_place values place view) ≡ true
   viewed_word count test view place is within h = viewed_where count test view place (const_at body view.value) is within refl h
 
-module _ (s : Shader) (shaped : IsShaped s) (set : Set) (closed : Closed s.body set) (fit : IsFit s.body set) (count : ℕ)
-    (op : Op) (view : Bind) (is : IsView s.body set count view) (applied : has_op op (alu_at s.body view.value) ≡ true) (stands : may_stand op ≡ true) where
-  alu : IsAlu s.body view.value op
-  alu = alu_found s.body view.value op applied
-
+-- a view of a value that an opcode writes, whose sources are in the set
+module _ (s : Shader) (set : Set) (count : ℕ) (op : Op) (view : Bind) (alu : IsAlu s.body view.value op) (stands : may_stand op ≡ true)
+    (counts : CountsFit op alu.kind.count (map (λ src. length src.swizzle) alu.srcs)) (inside : AllByRecursion (IsInside s.body) alu.srcs) (in_set : AllByRecursion (λ src. set src.value.0 ≡ true) alu.srcs)
+    (places : length view.comps ≡ count) (comps : AllByRecursion (λ c. c < component_count s.body view.value) view.comps) where
   value_count : component_count s.body view.value ≡ alu.kind.count
   value_count = ap (λ o. option_map_or (λ kind. kind.count) o 0) (alu_kind s.body view.value op alu)
 
   has_counts : AllByRecursion (λ src. length src.swizzle ≡ alu.kind.count) alu.srcs
-  has_counts = source_counts s.body view.value op set fit alu is.inside stands
-
-  in_set : AllByRecursion (λ src. set src.value.0 ≡ true) alu.srcs
-  in_set = all_read (λ v. set v.0 ≡ true) alu.srcs (λ source at e. closed view.value source op alu.kind alu.srcs is.inside alu.found (at, e))
+  has_counts = source_counts op alu.kind alu.srcs counts stands
 
   child_view : (src : Src) → set src.value.0 ≡ true → length src.swizzle ≡ alu.kind.count → IsInside s.body src → IsView s.body set count (child view.comps src)
-  child_view src own long inside = record {
+  child_view src own long within = record {
     inside = own;
-    places = length-map view.comps (λ c. slice_index src.swizzle c) ∙ is.places;
+    places = length-map view.comps (λ c. slice_index src.swizzle c) ∙ places;
     comps = all_map (λ c. slice_index src.swizzle c) (λ c. c < component_count s.body src.value) view.comps
         (all_each (λ c. c < component_count s.body view.value) (λ c. slice_index src.swizzle c < component_count s.body src.value)
-        (λ c less. all_at (λ n. n < component_count s.body src.value) src.swizzle c inside (subst (λ n. c < n) (value_count ∙ sym long) less))
-        view.comps is.comps);
+        (λ c less. all_at (λ n. n < component_count s.body src.value) src.swizzle c within (subst (λ n. c < n) (value_count ∙ sym long) less))
+        view.comps comps);
   }
 
-  -- the views of the sources are views again, as many as the opcode has sources
-  pub children_views : (flag : Bool) → AllByRecursion (IsView s.body set count) (children s.body flag view)
-  children_views flag =
+  -- the views of the sources are views again
+  pub sources_views : (flag : Bool) → AllByRecursion (IsView s.body set count) (children s.body flag view)
+  sources_views flag =
       let all = all_both (λ src. set src.value.0 ≡ true) (λ src. (length src.swizzle ≡ alu.kind.count) × IsInside s.body src) (λ src. IsView s.body set count (child view.comps src)) alu.srcs
       (λ src own more. child_view src own more.0 more.1) in_set
-      (all_both (λ src. length src.swizzle ≡ alu.kind.count) (IsInside s.body) (λ src. (length src.swizzle ≡ alu.kind.count) × IsInside s.body src) alu.srcs (λ src long inside. (long, inside)) has_counts
-      (fit.inside view.value op alu.kind alu.srcs is.inside alu.found)) in
+      (all_both (λ src. length src.swizzle ≡ alu.kind.count) (IsInside s.body) (λ src. (length src.swizzle ≡ alu.kind.count) × IsInside s.body src) alu.srcs (λ src long own. (long, own)) has_counts inside) in
       subst (AllByRecursion (IsView s.body set count)) (sym (alu_sources s.body op flag view alu))
       (all_map (child view.comps) (IsView s.body set count) (swapped flag alu.srcs) (all_swapped (λ src. IsView s.body set count (child view.comps src)) flag alu.srcs all))
 
-  pub children_count : (flag : Bool) → length (children s.body flag view) ≡ length (op_info op).inputs
-  children_count flag =
-      ap length (alu_sources s.body op flag view alu)
-      ∙ length-map (swapped flag alu.srcs) (child view.comps)
-      ∙ length-swapped flag alu.srcs
-      ∙ (found_shaped s shaped view.value (Alu view.value op alu.kind alu.srcs) alu.found).1
-
   -- the opcode makes the component in a place of those that stand there in the views of its sources
-  pub op_value : (values : Values) → IsKnown s.body set values → (flag : Bool) (place : ℕ) → (flag ≡ true → is_commutative op ≡ true) → place < count
+  pub op_at : (values : Values) → Fits op alu.kind.width (map (λ src. width_at s.body src.value) alu.srcs) → (flag : Bool) (place : ℕ) → (flag ≡ true → is_commutative op ≡ true) → place < count
       → op_mean op (width_bits (unsized_width op (width_at s.body view.value) (map (λ child. width_at s.body child.value) (children s.body flag view)))) (width_bits (width_at s.body view.value))
-          (map (at_place values place) (children s.body flag view)) ≡ at_place values place view
-  op_value values known flag place commutes within =
-      let here : place < length view.comps = subst (λ n. place < n) (sym is.places) within in
+          (map (at_place values place) (children s.body flag view)) ≡ slice_index (alu_mean (kind_at s.body) op alu.kind alu.srcs values) (slice_index view.comps place)
+  op_at values widths flag place commutes within =
+      let here : place < length view.comps = subst (λ n. place < n) (sym places) within in
       let c = slice_index view.comps place in
-      let there : c < alu.kind.count = subst (λ n. c < n) value_count (all_at (λ n. n < component_count s.body view.value) view.comps place is.comps here) in
+      let there : c < alu.kind.count = subst (λ n. c < n) value_count (all_at (λ n. n < component_count s.body view.value) view.comps place comps here) in
       let long = all_each (λ src. length src.swizzle ≡ alu.kind.count) (λ src. c < length src.swizzle) (λ src e. subst (λ n. c < n) (sym e) there) alu.srcs has_counts in
       let dst : width_at s.body view.value ≡ alu.kind.width = ap (λ o. option_map_or (λ (k : Kind). k.width) o W1) (alu_kind s.body view.value op alu) in
       let f : Src → Width = λ src. width_at s.body src.value in
-      let fits = sizes_fit-from_Fits op alu.kind.width (map f alu.srcs) (fit.widths view.value op alu.kind alu.srcs is.inside alu.found) in
+      let fits = sizes_fit-from_Fits op alu.kind.width (map f alu.srcs) widths in
       let sizes = λ (w : Width) (list : List Width). op_mean op (width_bits (unsized_width op w list)) (width_bits w) in
       ap (λ w. sizes w (map (λ child. width_at s.body child.value) (children s.body flag view)) (map (at_place values place) (children s.body flag view))) dst
       ∙ ap (λ l. sizes alu.kind.width (map (λ child. width_at s.body child.value) l) (map (at_place values place) l)) (alu_sources s.body op flag view alu)
@@ -283,8 +270,40 @@ module _ (s : Shader) (shaped : IsShaped s) (set : Set) (closed : Closed s.body 
       ∙ swapped_mean op (width_bits (unsized_width op alu.kind.width (map f alu.srcs))) (width_bits alu.kind.width) (λ src. at_place values place (child view.comps src)) flag alu.srcs commutes
       ∙ ap (sizes alu.kind.width (map f alu.srcs)) (at_children values place view.comps alu.srcs here long)
       ∙ sym (alu_mean_at (kind_at s.body) op alu.kind alu.srcs values c (shape-from_may_stand op stands) there)
-      ∙ sym (ap (λ l. slice_index l c) (known.equal view.value (Alu view.value op alu.kind alu.srcs) is.inside alu.found))
     where
       widths_of_map : (comps : List ℕ) (srcs : List Src) → map (λ (c : Bind). width_at s.body c.value) (map (child comps) srcs) ≡ map (λ (src : Src). width_at s.body src.value) srcs
       widths_of_map comps [] = refl
       widths_of_map comps (src ∷ srcs) = ap (λ t. width_at s.body src.value ∷ t) (widths_of_map comps srcs)
+
+-- as many sources as the opcode has
+pub sources_count : (s : Shader) → IsShaped s → (op : Op) (view : Bind) (alu : IsAlu s.body view.value op) (flag : Bool) → length (children s.body flag view) ≡ length (op_info op).inputs
+sources_count s shaped op view alu flag =
+    ap length (alu_sources s.body op flag view alu)
+    ∙ length-map (swapped flag alu.srcs) (child view.comps)
+    ∙ length-swapped flag alu.srcs
+    ∙ (found_shaped s shaped view.value (Alu view.value op alu.kind alu.srcs) alu.found).1
+
+module _ (s : Shader) (shaped : IsShaped s) (set : Set) (closed : Closed s.body set) (fit : IsFit s.body set) (count : ℕ)
+    (op : Op) (view : Bind) (is : IsView s.body set count view) (applied : has_op op (alu_at s.body view.value) ≡ true) (stands : may_stand op ≡ true) where
+  alu : IsAlu s.body view.value op
+  alu = alu_found s.body view.value op applied
+
+  in_set : AllByRecursion (λ src. set src.value.0 ≡ true) alu.srcs
+  in_set = all_read (λ v. set v.0 ≡ true) alu.srcs (λ source at e. closed view.value source op alu.kind alu.srcs is.inside alu.found (at, e))
+
+  -- the views of the sources are views again, as many as the opcode has sources
+  pub children_views : (flag : Bool) → AllByRecursion (IsView s.body set count) (children s.body flag view)
+  children_views flag =
+      sources_views s set count op view alu stands (fit.counts view.value op alu.kind alu.srcs is.inside alu.found) (fit.inside view.value op alu.kind alu.srcs is.inside alu.found) in_set is.places is.comps flag
+
+  pub children_count : (flag : Bool) → length (children s.body flag view) ≡ length (op_info op).inputs
+  children_count flag = sources_count s shaped op view alu flag
+
+  -- the opcode makes the component in a place of those that stand there in the views of its sources
+  pub op_value : (values : Values) → IsKnown s.body set values → (flag : Bool) (place : ℕ) → (flag ≡ true → is_commutative op ≡ true) → place < count
+      → op_mean op (width_bits (unsized_width op (width_at s.body view.value) (map (λ child. width_at s.body child.value) (children s.body flag view)))) (width_bits (width_at s.body view.value))
+          (map (at_place values place) (children s.body flag view)) ≡ at_place values place view
+  op_value values known flag place commutes within =
+      op_at s set count op view alu stands (fit.counts view.value op alu.kind alu.srcs is.inside alu.found) (fit.inside view.value op alu.kind alu.srcs is.inside alu.found) in_set is.places is.comps
+      values (fit.widths view.value op alu.kind alu.srcs is.inside alu.found) flag place commutes within
+      ∙ sym (ap (λ l. slice_index l (slice_index view.comps place)) (known.equal view.value (Alu view.value op alu.kind alu.srcs) is.inside alu.found))
