@@ -16,3 +16,7 @@ pub mod StepValue
 pub mod Unfit
 pub mod Views
 pub mod Walked
+pub mod RootLaws
+pub mod TypingLaws
+pub mod RowLaws
+pub mod BuiltLaws
