@@ -5,7 +5,7 @@ use Rattle.std.specs.List.{AllByRecursion, IsDistinct, find, flat_map}
 use Rattle.std.specs.Option.{option_and_then, option_map, option_map_or, option_or, option_to_list, unwrap_or}
 use Rattle.std.proofs.lemmas.Bool.{eq-eqb, eqb-true, ne_eqb, true≢false}
 use Rattle.list_laws.specs.AllLaws.{all_back, all_both, all_each, all_front, all_of_map}
-use Rattle.list_laws.specs.MapLaws.{map-append}
+use Rattle.std.proofs.lemmas.List.{map-append}
 use Rattle.nir_ops.specs.declared.width.Width.TheVariants.{W1}
 use Rattle.op_eval.specs.declared.view.View.{View}
 use Rattle.nir_ir.specs.declared.ids.ValueId.{ValueId}

@@ -9,7 +9,7 @@ use Rattle.std.specs.List.{find, list_all, list_any}
 use Rattle.std.specs.Option.{option_and_then, option_map, option_map_or, option_or}
 use Rattle.std.specs.Cmp.Lexicographic.{pointwise}
 use Rattle.list_laws.specs.AllLaws.{passes_at}
-use Rattle.list_laws.specs.BoolLaws.{or_false}
+use Rattle.std.proofs.Math.Bool.{or-false}
 use Rattle.list_laws.specs.OptionLaws.{if_some}
 use Rattle.nir_ops.specs.declared.op.Op.{Op}
 use Rattle.nir_ops.specs.declared.op.Op.TheVariants.{Mov}
@@ -124,7 +124,7 @@ unfolding is_typed
 typing_eight rule formed eight widths h =
     let test : List Width → Bool = λ typing. pointwise same_width (search_part rule typing) widths in
     let only = eight_typings rule formed eight in
-    let passes : test (all_eight rule) ≡ true = sym (or_false (test (all_eight rule))) ∙ sym (ap (list_any test) only) ∙ h in
+    let passes : test (all_eight rule) ≡ true = sym (or-false (test (all_eight rule))) ∙ sym (ap (list_any test) only) ∙ h in
     ap (find test) only ∙ cond-true (test (all_eight rule)) (Some (all_eight rule)) None passes
 
 replace_eight : (rule : Rule) → replace_part rule (all_eight rule) ≡ replicate (size_of rule.replace) W8

@@ -21,3 +21,4 @@ pub mod OnePhiLaws
 pub mod EquationsLaws
 pub mod Worked
 pub mod ThenLaws
+pub mod SweptLaws
