@@ -1,9 +1,10 @@
 -- A body that is one block: which bodies are, what it weighs, and that it is valid where its shader is.
-use Rattle.std.proofs.Common.{◌≡◌, List, [], ◌∷◌, length, get_or, Option, Some, None, refl, sym, ap, subst, ◌∙◌, sum_by, arith}
+use Rattle.std.proofs.Common.{◌≡◌, ℕ, List, [], ◌∷◌, length, get_or, Option, Some, None, refl, sym, ap, subst, ◌∙◌, sum_by, arith}
 use Rattle.std.specs.Prelude.{Bool, true, false, nat_eq, if◌then◌else◌}
 use Rattle.std.specs.List.{list_all}
 use Rattle.std.proofs.lemmas.Bool.{true≢false}
 use Rattle.std.proofs.lemmas.List.{append-nil}
+use Rattle.nir_ops.specs.declared.op.Op.{Op}
 use Rattle.nir_ir.specs.declared.ids.IfId.{IfId}
 use Rattle.nir_ir.specs.declared.ids.LoopId.{LoopId}
 use Rattle.nir_ir.specs.declared.ids.ValueId.{ValueId}
@@ -66,10 +67,10 @@ body-only_block (IfThen id cond first second rest) b e = absurd (cc)
 body-only_block (LoopThen id body rest) b e = absurd (cc)
 
 -- one block has its instructions and no others
-pub weight-one_block : (s : Shader) (b : block.Block) → Some b ≡ only_block s.body → sum_by instr_weight b.instrs ≡ weight_of s
-weight-one_block s b e =
-    ap (sum_by instr_weight) (sym (append-nil b.instrs) ∙ sym (instrs-BlockThen b Nil))
-    ∙ ap (λ (nodes : Nodes). sum_by instr_weight (instrs nodes)) (sym (body-only_block s.body b e))
+pub weight-one_block : (weight : Op → ℕ) (s : Shader) (b : block.Block) → Some b ≡ only_block s.body → sum_by (instr_weight weight) b.instrs ≡ weight_of weight s
+weight-one_block weight s b e =
+    ap (sum_by (instr_weight weight)) (sym (append-nil b.instrs) ∙ sym (instrs-BlockThen b Nil))
+    ∙ ap (λ (nodes : Nodes). sum_by (instr_weight weight) (instrs nodes)) (sym (body-only_block s.body b e))
 
 -- a shader of the form that is built has one block
 both : (a b : Bool) → (if a then b else false) ≡ true → b ≡ true

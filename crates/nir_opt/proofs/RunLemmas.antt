@@ -8,6 +8,7 @@ use Rattle.nir_ir.specs.Shader.{Shader}
 use Rattle.nir_ir.specs.Shaped.{IsShaped}
 use Rattle.rule_term.specs.EightBit.{is_eight_bit}
 use Rattle.rule_term.specs.Table.{Table}
+use Rattle.rule_term.specs.Weights.{initial_weight}
 use Rattle.rule_read.specs.declared.entry.Entry.{Entry}
 use Rattle.rule_read.specs.RuleFile.{RuleFile}
 use Rattle.rule_check.specs.Accepted.{is_tried, rules_of, stands_at_eight}
@@ -55,7 +56,7 @@ all_built (entry ∷ rest) eight firsts =
 pub work_is : (rules shader : List ℕ) (table : Table) (read last : Shader) (names : List (List ℕ)) (journal : List Step) (rewrites weight : ℕ) (text : List ℕ)
     → IsTableOf (first_rules rules) table → shader_answer shader ≡ Ok read → names ≡ []
     → replay (record { names = names }) table.rules read journal ≡ Some last → is_settled (record { names = names }) table.rules last ≡ true
-    → rewrites ≡ length journal → weight_of last + rewrites ≡ weight_of read → weight ≡ weight_of read → IsShaped last → Valid last → Same read last
+    → rewrites ≡ length journal → weight_of initial_weight last + rewrites ≡ weight_of initial_weight read → weight ≡ weight_of initial_weight read → IsShaped last → Valid last → Same read last
     → text ≡ text_of last → IsTextOf text (printed_names last.body) (renumber last) → RenumberedIsShaped → RenumberedIsValid → RenumberedIsSame
     → PrintsWork rules shader (record { text = text; journal = journal; rewrites = rewrites; limit = weight + 4096 })
 work_is rules shader table read last names journal rewrites weight text tabled found none replayed settled counted fewer weighs shaped valid same is denotes keeps_shape keeps_validity keeps_meaning =

@@ -1,5 +1,5 @@
 -- A run that stopped before its work: what its status says, stage by stage, and that its promises are kept.
-use Rattle.std.specs.Prelude.{◌≡◌, refl, ◌↔◌, ◌≢◌, ◌⊎◌, ℕ, Bool, true, false, ◌++◌, List, Option, Some, None, Result, Ok, Err, IsOk}
+use Rattle.std.specs.Prelude.{◌≡◌, refl, ◌↔◌, ◌≢◌, ◌⊎◌, ℕ, Bool, true, false, List, Option, Some, None, Result, Ok, Err, IsOk}
 use Rattle.std.proofs.Common.{◌∙◌, ap, inl, inr, subst, sym}
 use Rattle.std.proofs.lemmas.Bool.{true≢false}
 use Rattle.std.proofs.lemmas.Option.{none-some}
@@ -9,15 +9,16 @@ use Rattle.nir_text.specs.declared.fault.TextFault.{TextFault}
 use Rattle.rule_read.specs.RuleFile.{RuleFile}
 use Rattle.rule_term.specs.Table.{Table}
 use Rattle.nir_mean.specs.Faults.{is_of_text}
+use Rattle.nir_mean.specs.ShaderLines.{TakesLine}
 use Rattle.nir_opt.specs.declared.status.Report.{Report}
 use Rattle.nir_opt.specs.declared.status.Status.{Status}
 use Rattle.nir_opt.specs.declared.status.Status.TheVariants.{Usage, ReadFault, WriteFault, RuleRefused, ShaderSyntax, ShaderInvalid, NotBuilt, OutOfMemory}
 use Rattle.nir_opt.specs.declared.status.Status.TheVariants as status
-use Rattle.nir_opt.specs.Answers.{AreAccepted, EndsWell, has_reading, is_of_rules, line_of, RulesFit, ShaderFits, shader_answer}
+use Rattle.nir_opt.specs.Answers.{AreAccepted, EndsWell, has_reading, is_of_rules, IsToldAs, line_of, RulesFit, ShaderFits, shader_answer}
 use Rattle.nir_opt.specs.FirstRules.{first_rules}
 use Rattle.nir_opt.specs.Ran.{Ran, ReadFaults, Reading, WriteFaults, Writing}
 use Rattle.nir_opt.specs.Texts.{EndsRules, EndsShader, IsTableOf}
-use Rattle.nir_opt.specs.Work.{idle, IsTold}
+use Rattle.nir_opt.specs.Work.{idle}
 
 -- a status with which reading the rules may end
 record OfRules (ending : Status) (fault : Type 0) : Type 0 where
@@ -162,9 +163,9 @@ shader_stops given_words rules shader table ending reads tabled ends fits =
       not_fault = is_other WriteFault;
     }
 
--- the line of the status was written, or a fault of the sink was counted
+-- what the sink of lines took
 abbrev pub Tells : Writing → Status → Type 0
-Tells lines ending = (before : List ℕ) → lines.taken_before ≡ Some before → (WriteFaults lines → ⊥) → lines.taken_after ≡ Some (before ++ line_of ending)
+Tells lines ending = TakesLine lines.taken_before lines.taken_after lines.faults_before lines.faults_after (line_of ending)
 
 idle_ran : (given_words : List (List ℕ)) (rules shader : Reading) (out lines : Writing) (ending : Status) → Stops given_words rules shader ending → out.taken_after ≡ out.taken_before
     → Tells lines ending → Ran given_words rules shader out lines (idle ending)
@@ -191,44 +192,48 @@ idle_ran given_words rules shader out lines ending stops kept told = record {
 }
 
 told_ran : (given_words : List (List ℕ)) (rules shader : Reading) (out lines : Writing) (ending : Status) (report : Report) → Stops given_words rules shader ending
-    → report ≡ idle ending → out.taken_after ≡ out.taken_before → Tells lines report.status → Ran given_words rules shader out lines report
+    → report ≡ idle ending → out.taken_after ≡ out.taken_before → Tells lines ending → Ran given_words rules shader out lines report
 told_ran given_words rules shader out lines ending report stops is kept told =
-    subst (Ran given_words rules shader out lines) (sym is)
-    (idle_ran given_words rules shader out lines ending stops kept (subst (λ (r : Report). Tells lines r.status) is told))
+    subst (Ran given_words rules shader out lines) (sym is) (idle_ran given_words rules shader out lines ending stops kept told)
 
 -- where words were read, want of memory may take the place of a status
-read_ran : (given_words : List (List ℕ)) (rules shader : Reading) (out lines : Writing) (ending : Status) (report : Report) → has_reading given_words ≡ true → Stops given_words rules shader ending
-    → IsTold ending report → out.taken_after ≡ out.taken_before → Tells lines report.status → Ran given_words rules shader out lines report
-read_ran given_words rules shader out lines ending report reads stops is kept told =
-    elim is [
-      | inl same ↦ told_ran given_words rules shader out lines ending report stops same kept told
-      | inr memory ↦ told_ran given_words rules shader out lines OutOfMemory report (memory_stops given_words rules shader reads) memory.0 kept told
+read_ran : (given_words : List (List ℕ)) (rules shader : Reading) (out lines : Writing) (ending answer : Status) (report : Report) → has_reading given_words ≡ true
+    → Stops given_words rules shader ending → IsToldAs ending answer → report ≡ idle answer → out.taken_after ≡ out.taken_before → Tells lines answer
+    → Ran given_words rules shader out lines report
+read_ran given_words rules shader out lines ending answer report reads stops becomes is kept told =
+    elim becomes [
+      | inl same ↦ told_ran given_words rules shader out lines ending report stops (is ∙ ap idle same) kept (subst (Tells lines) same told)
+      | inr memory ↦
+          told_ran given_words rules shader out lines OutOfMemory report (memory_stops given_words rules shader reads) (is ∙ ap idle memory.0) kept
+          (subst (Tells lines) memory.0 told)
     ]
 
 -- one for each way to stop
-pub ran_without_words : (given_words : List (List ℕ)) (rules shader : Reading) (out lines : Writing) (report : Report) → has_reading given_words ≡ false
-    → rules.left_after ≡ rules.left_before → shader.left_after ≡ shader.left_before → IsTold Usage report → out.taken_after ≡ out.taken_before → Tells lines report.status
-    → Ran given_words rules shader out lines report
-ran_without_words given_words rules shader out lines report none rules_kept shader_kept is kept told =
-    elim is [
-      | inl same ↦ told_ran given_words rules shader out lines Usage report (usage_stops given_words rules shader none rules_kept shader_kept) same kept told
+pub ran_without_words : (given_words : List (List ℕ)) (rules shader : Reading) (out lines : Writing) (answer : Status) (report : Report) → has_reading given_words ≡ false
+    → rules.left_after ≡ rules.left_before → shader.left_after ≡ shader.left_before → IsToldAs Usage answer → report ≡ idle answer → out.taken_after ≡ out.taken_before
+    → Tells lines answer → Ran given_words rules shader out lines report
+ran_without_words given_words rules shader out lines answer report none rules_kept shader_kept becomes is kept told =
+    elim becomes [
+      | inl same ↦
+          told_ran given_words rules shader out lines Usage report (usage_stops given_words rules shader none rules_kept shader_kept) (is ∙ ap idle same) kept
+          (subst (Tells lines) same told)
       | inr memory ↦ absurd (true≢false memory.1)
     ]
 
-pub ran_to_rules : (given_words : List (List ℕ)) (rules shader : Reading) (out lines : Writing) (ending : Status) (report : Report) → has_reading given_words ≡ true
+pub ran_to_rules : (given_words : List (List ℕ)) (rules shader : Reading) (out lines : Writing) (ending answer : Status) (report : Report) → has_reading given_words ≡ true
     → EndsRules ending (ReadFaults rules) → ((text : List ℕ) → rules.left_before ≡ Some text → RulesFit ending (first_rules text)) → shader.left_after ≡ shader.left_before
-    → IsTold ending report → out.taken_after ≡ out.taken_before → Tells lines report.status → Ran given_words rules shader out lines report
-ran_to_rules given_words rules shader out lines ending report reads ends fits kept =
-    read_ran given_words rules shader out lines ending report reads (rules_stop given_words rules shader ending reads ends fits kept)
+    → IsToldAs ending answer → report ≡ idle answer → out.taken_after ≡ out.taken_before → Tells lines answer → Ran given_words rules shader out lines report
+ran_to_rules given_words rules shader out lines ending answer report reads ends fits kept =
+    read_ran given_words rules shader out lines ending answer report reads (rules_stop given_words rules shader ending reads ends fits kept)
 
-pub ran_to_shader : (given_words : List (List ℕ)) (rules shader : Reading) (out lines : Writing) (table : Table) (ending : Status) (report : Report) → has_reading given_words ≡ true
-    → ((text : List ℕ) → rules.left_before ≡ Some text → IsTableOf (first_rules text) table)
+pub ran_to_shader : (given_words : List (List ℕ)) (rules shader : Reading) (out lines : Writing) (table : Table) (ending answer : Status) (report : Report)
+    → has_reading given_words ≡ true → ((text : List ℕ) → rules.left_before ≡ Some text → IsTableOf (first_rules text) table)
     → EndsShader ending (ReadFaults shader) → ((text : List ℕ) → shader.left_before ≡ Some text → ShaderFits ending (shader_answer text))
-    → IsTold ending report → out.taken_after ≡ out.taken_before → Tells lines report.status → Ran given_words rules shader out lines report
-ran_to_shader given_words rules shader out lines table ending report reads tabled ends fits =
-    read_ran given_words rules shader out lines ending report reads (shader_stops given_words rules shader table ending reads tabled ends fits)
+    → IsToldAs ending answer → report ≡ idle answer → out.taken_after ≡ out.taken_before → Tells lines answer → Ran given_words rules shader out lines report
+ran_to_shader given_words rules shader out lines table ending answer report reads tabled ends fits =
+    read_ran given_words rules shader out lines ending answer report reads (shader_stops given_words rules shader table ending reads tabled ends fits)
 
-pub ran_out_of_memory : (given_words : List (List ℕ)) (rules shader : Reading) (out lines : Writing) (report : Report) → has_reading given_words ≡ true
-    → IsTold OutOfMemory report → out.taken_after ≡ out.taken_before → Tells lines report.status → Ran given_words rules shader out lines report
-ran_out_of_memory given_words rules shader out lines report reads =
-    read_ran given_words rules shader out lines OutOfMemory report reads (memory_stops given_words rules shader reads)
+pub ran_out_of_memory : (given_words : List (List ℕ)) (rules shader : Reading) (out lines : Writing) (answer : Status) (report : Report) → has_reading given_words ≡ true
+    → IsToldAs OutOfMemory answer → report ≡ idle answer → out.taken_after ≡ out.taken_before → Tells lines answer → Ran given_words rules shader out lines report
+ran_out_of_memory given_words rules shader out lines answer report reads =
+    read_ran given_words rules shader out lines OutOfMemory answer report reads (memory_stops given_words rules shader reads)

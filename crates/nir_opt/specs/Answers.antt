@@ -1,5 +1,5 @@
 -- What each status says of the words, of the texts of the two sources, and which line it writes.
-use Rattle.std.specs.Prelude.{◌≡◌, ℕ, Bool, true, false, not, ◌++◌, List, [], ◌∷◌, codes, decimal, IsOk, Option, Some, None, Result, Ok, Err, nat_eq, if◌then◌else◌, ⊤}
+use Rattle.std.specs.Prelude.{◌≡◌, ℕ, Bool, true, false, not, ◌++◌, List, [], ◌∷◌, codes, decimal, IsOk, Option, Some, None, Result, Ok, Err, nat_eq, if◌then◌else◌, ⊤, ◌⊎◌}
 use Rattle.std.specs.List.{starts_with}
 use Rattle.nir_host.specs.declared.fault.Which.TheVariants.{Rules, Shader}
 use Rattle.nir_ir.specs.Shader as ir
@@ -170,3 +170,12 @@ has_plain_line (ShaderInvalid rule item) = false
 has_plain_line (status.TooLong which) = true
 has_plain_line OutOfMemory = true
 has_plain_line (NotBuilt which) = true
+
+-- the line of a status: built, or one of a few
+abbrev pub IsLine : Option (List ℕ) → Status → Type 0
+IsLine None status = has_plain_line status ≡ true
+IsLine (Some line) status = line ≡ line_of status
+
+-- the status that is told for one: want of memory for its line takes its place
+abbrev pub IsToldAs : Status → Status → Type 0
+IsToldAs status answer = (answer ≡ status) ⊎ (answer ≡ OutOfMemory) × (has_plain_line status ≡ false)

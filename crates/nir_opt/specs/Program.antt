@@ -1,5 +1,5 @@
 -- The program by its first word: `eval` runs a shader, every other list of words optimises one. What a run of a shader promises, as one fact.
-use Rattle.std.specs.Prelude.{◌≡◌, ◌↔◌, ◌≢◌, ℕ, Bool, true, false, ◌++◌, List, [], ◌∷◌, Option, Some, None, codes, drop}
+use Rattle.std.specs.Prelude.{◌≡◌, ◌↔◌, ◌≢◌, ℕ, Bool, true, false, List, [], ◌∷◌, Option, Some, None, codes, drop}
 use Rattle.std.specs.Str.{bytes_eq}
 use Rattle.nir_host.specs.declared.fault.Which.TheVariants as which
 use Rattle.nir_host.specs.Told.{Gains}
@@ -14,6 +14,7 @@ use Rattle.eval_words.specs.EvalWords.{eval_words}
 use Rattle.nir_mean.specs.Faults.{is_of_text}
 use Rattle.nir_mean.specs.Outcome.{outcome}
 use Rattle.nir_mean.specs.OutcomeText.{outcome_text}
+use Rattle.nir_mean.specs.ShaderLines.{TakesLine}
 use Rattle.nir_mean.specs.ShaderText.{Sound, answer_of, ReadsToEnd}
 use Rattle.nir_opt.specs.declared.program.Ended.{Ended}
 use Rattle.nir_opt.specs.declared.program.Ended.TheVariants.{Run, Eval}
@@ -26,6 +27,7 @@ pub record RanShader (given_words : List (List ℕ)) (shader : Reading) (out lin
   pub says : (given : EvalWords) → eval_words given_words ≡ Some given → (text : List ℕ) → shader.left_before ≡ Some text → answers.Says ending given (answer_of text)
   pub syntax : (fault : TextFault) → ending ≡ eval.ShaderSyntax fault → is_of_text fault ≡ true
   pub rules_fault : ending ≢ eval.ReadFault which.Rules
+  pub rules_length : ending ≢ eval.TooLong which.Rules
   pub shader_fault : ending ≡ eval.ReadFault which.Shader → ReadFaults shader
   pub write_fault : ending ≡ eval.WriteFault → WriteFaults out
   pub complete : (given : EvalWords) → eval_words given_words ≡ Some given → (text : List ℕ) → shader.left_before ≡ Some text
@@ -38,7 +40,7 @@ pub record RanShader (given_words : List (List ℕ)) (shader : Reading) (out lin
   pub prefix : ending ≡ eval.WriteFault → (given : EvalWords) → eval_words given_words ≡ Some given → (text : List ℕ) → shader.left_before ≡ Some text
       → (s : Shader) → answer_of text ≡ Sound s → (before : List ℕ) → out.taken_before ≡ Some before
       → TakesFront before out.taken_after (outcome_text (outcome s given.inputs given.buffers given.turns))
-  pub notes : (before : List ℕ) → lines.taken_before ≡ Some before → (WriteFaults lines → ⊥) → lines.taken_after ≡ Some (before ++ answers.line_of ending)
+  pub notes : TakesLine lines.taken_before lines.taken_after lines.faults_before lines.faults_after (answers.line_of ending)
 
 -- the first word is `eval`
 abbrev pub picks_eval : List (List ℕ) → Bool
@@ -59,6 +61,21 @@ EndsAsEval words rules shader out notes (Eval ending) = RanShader (drop 1 words)
 abbrev pub ended_number : Ended → ℕ
 ended_number (Run report) = number_of report.status
 ended_number (Eval ending) = answers.number_of ending
+
+-- a number under these words: that of an ending that keeps the promises of the call which the first word picks
+pub record EndsWith (words : List (List ℕ)) (number : ℕ) : Type 0 where
+  pub rules : Reading
+  pub shader : Reading
+  pub out : Writing
+  pub notes : Writing
+  pub ended : Ended
+  pub run : picks_eval words ≡ false → EndsAsRun words rules shader out notes ended
+  pub eval : picks_eval words ≡ true → EndsAsEval words rules shader out notes ended
+  pub is : number ≡ ended_number ended
+
+-- a number under some words
+abbrev pub IsNumber : ℕ → Type 0
+IsNumber number = (words : List (List ℕ)) × EndsWith words number
 
 -- the place of the word RULES: the first, unless that picks a command without rules
 abbrev pub rules_at : List (List ℕ) → Option ℕ

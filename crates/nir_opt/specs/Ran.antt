@@ -1,5 +1,5 @@
 -- What a call of `run` promises of its words, its two sources and its two sinks, as one fact.
-use Rattle.std.specs.Prelude.{◌≡◌, ◌↔◌, ◌≢◌, ℕ, true, false, ◌++◌, List, [], Option, Some, IsOk}
+use Rattle.std.specs.Prelude.{◌≡◌, ◌↔◌, ◌≢◌, ℕ, true, false, List, [], Option, Some, IsOk}
 use Rattle.nir_host.specs.declared.fault.Which.TheVariants as which
 use Rattle.nir_host.specs.Faults.{Rose}
 use Rattle.nir_host.specs.Told.{Gains}
@@ -8,6 +8,7 @@ use Rattle.nir_ir.specs.Shader.{Shader}
 use Rattle.nir_print.specs.Text.{text_of}
 use Rattle.nir_text.specs.declared.fault.TextFault.{TextFault}
 use Rattle.nir_mean.specs.Faults.{is_of_text}
+use Rattle.nir_mean.specs.ShaderLines.{TakesLine}
 use Rattle.nir_mean.specs.ShaderText.{ReadsToEnd}
 use Rattle.nir_opt.specs.declared.status.Report.{Report}
 use Rattle.nir_opt.specs.declared.status.Status.TheVariants as status
@@ -58,7 +59,7 @@ pub record Ran (given_words : List (List ℕ)) (rules shader : Reading) (out lin
   pub prefix : report.status ≡ status.WriteFault → (rule_text shader_text : List ℕ) → rules.left_before ≡ Some rule_text → shader.left_before ≡ Some shader_text
       → (before : List ℕ) → out.taken_before ≡ Some before
       → (last : Shader) × IsWork rule_text shader_text report.journal report.rewrites report.limit last × TakesFront before out.taken_after (text_of last)
-  pub notes : (before : List ℕ) → lines.taken_before ≡ Some before → (WriteFaults lines → ⊥) → lines.taken_after ≡ Some (before ++ line_of report.status)
+  pub notes : TakesLine lines.taken_before lines.taken_after lines.faults_before lines.faults_after (line_of report.status)
   pub idle : report.status ≢ status.Ok → report.status ≢ status.WriteFault → (report.journal ≡ []) × (report.rewrites ≡ 0) × (report.limit ≡ 0)
   pub stopped : report.stopped ≡ false
   pub place : report.place ≡ place_of report.status

@@ -7,6 +7,7 @@ use Rattle.nir_ir.specs.declared.journal.Step.{Step}
 use Rattle.nir_ir.specs.Shader.{Shader}
 use Rattle.nir_ir.specs.Shaped.{IsShaped}
 use Rattle.rule_term.specs.declared.when.Options.{Options}
+use Rattle.rule_term.specs.Weights.{initial_weight}
 use Rattle.rule_read.specs.RuleFile.{RuleFile}
 use Rattle.rule_check.specs.Accepted.{rules_of}
 use Rattle.nir_mean.specs.Same.{Same}
@@ -18,10 +19,10 @@ use Rattle.nir_search.specs.Steps.{replay, is_settled}
 use Rattle.nir_search.specs.Weight.{weight_of}
 use Rattle.nir_opt.specs.declared.status.Report.{Report}
 use Rattle.nir_opt.specs.declared.status.Status.{Status}
-use Rattle.nir_opt.specs.declared.status.Status.TheVariants.{OutOfMemory, WriteFault}
+use Rattle.nir_opt.specs.declared.status.Status.TheVariants.{WriteFault}
 use Rattle.nir_opt.specs.declared.status.Status.TheVariants as status
 use Rattle.nir_opt.specs.declared.optimise.Work.{Work}
-use Rattle.nir_opt.specs.Answers.{has_plain_line, place_of, shader_answer}
+use Rattle.nir_opt.specs.Answers.{place_of, shader_answer}
 use Rattle.nir_opt.specs.FirstRules.{first_rules}
 
 -- no option is set
@@ -40,8 +41,9 @@ pub record IsWork (rules shader : List ℕ) (journal : List Step) (rewrites limi
   pub settled : is_settled no_options (rules_of file.entries) last ≡ true
   pub counted : rewrites ≡ length journal
   -- each step leaves one opcode other than mov fewer
-  pub fewer : weight_of last + rewrites ≡ weight_of read
-  pub limited : limit ≡ weight_of read + 4096
+  pub fewer : weight_of initial_weight last + rewrites ≡ weight_of initial_weight read
+  -- a file of the form that is built sets no weight, so each opcode has its initial one
+  pub limited : limit ≡ weight_of initial_weight read + 4096
   -- it is shaped and valid, and means what the one that was read means
   pub shaped : IsShaped last
   pub valid : Valid last
@@ -70,7 +72,3 @@ worked status work = record { status = status; journal = work.journal; rewrites 
 -- the report of no work
 abbrev pub idle : Status → Report
 idle status = record { status = status; journal = []; rewrites = 0; limit = 0; stopped = false; place = place_of status }
-
--- the report of no work with this status; where its line is built, for want of memory for the line with that
-abbrev pub IsTold : Status → Report → Type 0
-IsTold status report = (report ≡ idle status) ⊎ ((report ≡ idle OutOfMemory) × (has_plain_line status ≡ false))

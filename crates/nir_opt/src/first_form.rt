@@ -7,6 +7,7 @@ ghost use Rattle.nir_lex.specs.Kinds.{is_mark};
 ghost use Rattle.nir_lex.specs.Reading.{read_tokens};
 ghost use Rattle.nir_ir.specs.Nodes.{nodes_of};
 ghost use Rattle.nir_search.specs.Weight.{weight_of, instr_weight};
+ghost use Rattle.rule_term.specs.Table.{op_weight};
 ghost use Rattle.nir_validate.specs.Valid.{Valid};
 ghost use Rattle.nir_opt.specs.FirstForm.{is_w8x1, is_first_op, instr_fits, block_fits, only_block, body_fits, is_first_form, has_no_dot, is_of_first_form};
 
@@ -15,6 +16,7 @@ use nir_ir::{Block, Instr, Kind, Node, Shader};
 use nir_lex::{LexFault, Token, tokens};
 use nir_ops::{Op, Width};
 use nir_search::count_instrs;
+use rule_term::Table;
 use std::alloc::Global;
 
 /// How many bytes a text may have.
@@ -89,11 +91,11 @@ fn instrs_fit(instrs: &[Instr]) -> bool
     true
 }
 
-/// The weight of a block that fits.
-fn weight_of_block(block: &Block) -> Option<u64>
+/// The weight of a block that fits, by the weights of a table.
+fn weight_of_block(table: &Table, block: &Block) -> Option<u64>
     ensures fits { is_some result ≡ block_fits block.now }
-    ensures weight { IfSome result (λ weight. weight ≡ sum_by instr_weight block.now.instrs) }
-    ensures few { IfSome result (λ weight. weight ≤ 256) }
+    ensures weight { IfSome result (λ weight. weight ≡ sum_by (instr_weight (op_weight table.now)) block.now.instrs) }
+    ensures few { IfSome result (λ weight. weight ≤ 15360) }
 {
     if !block.phis.is_empty() {
         return None;
@@ -101,7 +103,7 @@ fn weight_of_block(block: &Block) -> Option<u64>
     if block.jump.is_some() {
         return None;
     }
-    let census = count_instrs(block.instrs.as_slice());
+    let census = count_instrs(table, block.instrs.as_slice());
     if census.values > MAX_VALUES {
         return None;
     }
@@ -132,12 +134,12 @@ fn block_of(node: &Node) -> Option<&Block>
     }
 }
 
-/// The weight of a shader of one block of 8-bit code; None for every other shader.
+/// The weight of a shader of one block of 8-bit code, by the weights of a table; None for every other shader.
 #[tactic(auto, unfolding(crate::specs::FirstForm::is_first_form))]
-fn weight_of_first_form(shader: &Shader) -> Option<u64>
+fn weight_of_first_form(table: &Table, shader: &Shader) -> Option<u64>
     ensures fits { is_some result ≡ is_first_form shader.now }
-    ensures weight { IfSome result (λ weight. weight ≡ weight_of shader.now) }
-    ensures few { IfSome result (λ weight. weight ≤ 256) }
+    ensures weight { IfSome result (λ weight. weight ≡ weight_of (op_weight table.now) shader.now) }
+    ensures few { IfSome result (λ weight. weight ≤ 15360) }
 {
     if shader.buffers != 0 {
         return None;
@@ -151,7 +153,7 @@ fn weight_of_first_form(shader: &Shader) -> Option<u64>
     let Some(block) = only_block(shader.body.as_slice()) else {
         return None;
     };
-    weight_of_block(block)
+    weight_of_block(table, block)
 }
 
 /// Whether no token is a `.`, with which a swizzle would begin.
@@ -183,14 +185,19 @@ pub struct Built {
     pub weight: u64,
 }
 
-/// The valid shader of a text with its weight, where they are of the form that is built; None for every other text and valid
-/// shader.
+/// The valid shader of a text with its weight by a table, where they are of the form that is built; None for every other text
+/// and valid shader.
 #[tactic(auto, unfolding(crate::specs::FirstForm::is_of_first_form))]
-pub fn built_of(alloc: Global, text: &[u8], shader: Shader) -> Result<Option<Built>, OutOfMemory>
+pub fn built_of(
+    alloc: Global,
+    table: &Table,
+    text: &[u8],
+    shader: Shader,
+) -> Result<Option<Built>, OutOfMemory>
     requires valid { Valid shader }
     ensures shader { IfOk result (λ built. option_map (λ b. b.shader) built ≡ (if is_of_first_form text.now shader then Some shader else None)) }
-    ensures weight { IfOk result (λ built. IfSome built (λ b. b.weight ≡ weight_of b.shader)) }
-    ensures few { IfOk result (λ built. IfSome built (λ b. b.weight ≤ 256)) }
+    ensures weight { IfOk result (λ built. IfSome built (λ b. b.weight ≡ weight_of (op_weight table.now) b.shader)) }
+    ensures few { IfOk result (λ built. IfSome built (λ b. b.weight ≤ 15360)) }
     ensures form { IfOk result (λ built. IfSome built (λ b. is_first_form b.shader ≡ true)) }
     ensures valid { IfOk result (λ built. IfSome built (λ b. Valid b.shader)) }
 {
@@ -200,7 +207,7 @@ pub fn built_of(alloc: Global, text: &[u8], shader: Shader) -> Result<Option<Bui
     if !has_no_dot(alloc, text)? {
         return Ok(None);
     }
-    Ok(with_weight(weight_of_first_form(&shader), shader))
+    Ok(with_weight(weight_of_first_form(table, &shader), shader))
 }
 
 /// A shader with its weight, where it has one.

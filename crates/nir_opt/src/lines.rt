@@ -1,7 +1,7 @@
 //! The line of each status.
 
-ghost use Rattle.std.specs.Prelude.{◌≡◌, ◌++◌, true, false, not, is_some, IfOk, IfSome, OnErr, OnOk};
-ghost use Rattle.nir_opt.specs.Answers.{at_values, cause_text, has_plain_line, line_of, typing_text};
+ghost use Rattle.std.specs.Prelude.{◌≡◌, ◌++◌, true, false, IfOk, OnErr, OnOk};
+ghost use Rattle.nir_opt.specs.Answers.{at_values, cause_text, has_plain_line, IsLine, line_of, typing_text};
 
 use crate::status::Status;
 use nir_host::{Bytes, OutOfMemory, Which};
@@ -34,8 +34,7 @@ pub fn plain_line(status: &Status) -> &'static [u8]
 
 /// The line of a status that names a rule or a place, with its line feed; None for every other status.
 pub fn built_line(alloc: Global, status: &Status) -> Result<Option<Bytes>, OutOfMemory>
-    ensures line { IfOk result (λ built. IfSome built (λ line. line ≡ line_of status.now)) }
-    ensures built { IfOk result (λ built. is_some built ≡ not (has_plain_line status.now)) }
+    ensures line { IfOk result (λ built. IsLine built status.now) }
     ensures no_memory { OnErr result (has_plain_line status.now ≡ false) }
 {
     match status {

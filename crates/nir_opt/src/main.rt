@@ -14,9 +14,10 @@ mod tests;
 mod texts;
 mod words;
 
-ghost use Rattle.std.specs.Prelude.{◌≡◌, ◌<◌};
+ghost use Rattle.std.specs.Prelude.{◌≡◌, ◌⊎◌, ◌<◌};
+ghost use Rattle.nir_opt.specs.Program.{EndsWith, IsNumber};
 
-use nir_host::{Bytes, FileSource, Sink, StderrSink, StdinSource, StdoutSink};
+use nir_host::{Bytes, FileSource, StderrSink, StdinSource, StdoutSink, write_all};
 use nir_search::Steps;
 use program::{program, rules_at};
 use std::marker::Brand;
@@ -34,8 +35,10 @@ fn main(rt: HostRuntime) -> ExitCode {
     ExitCode::from(started(&rt))
 }
 
-/// Takes the arguments, and answers the status.
-fn started(rt: &HostRuntime) -> u8 {
+/// Takes the arguments, and answers the status: that of the program, or the one for arguments that cannot be had.
+fn started(rt: &HostRuntime) -> u8
+    ensures { (result ≡ 16) ⊎ ((result ≡ 10) ⊎ IsNumber result) }
+{
     let args = match env::args(rt) {
         Ok(args) => args,
         Err(error) => return refused(rt, &error),
@@ -50,12 +53,17 @@ fn started(rt: &HostRuntime) -> u8 {
 }
 
 /// Why there are no arguments.
-fn refused(rt: &HostRuntime, error: &io::Error) -> u8 {
+fn refused(rt: &HostRuntime, error: &io::Error) -> u8
+    ensures { (result ≡ 16) ⊎ (result ≡ 10) }
+{
     if error.kind() == io::ErrorKind::OutOfMemory {
         return NO_MEMORY;
     }
     let mut notes = StderrSink::new(rt.stderr());
-    let _ = notes.write(b"arguments unreadable\n");
+    match write_all(&mut notes, b"arguments unreadable\n") {
+        Ok(()) => {}
+        Err(_fault) => {}
+    }
     UNREADABLE
 }
 
@@ -65,6 +73,7 @@ fn counted<L: Ledger>(rt: &HostRuntime, words: &[Bytes], blank: Blank) -> u8
     requires name { blank.name ≡ L.name }
     requires parts { blank.parts ≡ L.parts }
     requires some { 0 < blank.parts }
+    ensures { EndsWith words.now result }
 {
     let mut rules = FileSource::open(rt, path_of(words));
     let mut shader = StdinSource::new(rt.stdin());

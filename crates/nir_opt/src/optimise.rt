@@ -5,8 +5,9 @@ ghost use Rattle.std.specs.List.{list_all};
 ghost use Rattle.nir_search.specs.Steps.{replay, is_settled};
 ghost use Rattle.nir_search.specs.Weight.{weight_of};
 ghost use Rattle.nir_search.specs.Built.{is_built};
-ghost use Rattle.rule_term.specs.Table.{AllHold};
-ghost use Rattle.rule_meaning.specs.StepSame.{AllFormed};
+ghost use Rattle.nir_ops.specs.declared.op.Op.{Op as Opcode};
+ghost use Rattle.rule_term.specs.Table.{op_weight};
+ghost use Rattle.rule_term.specs.Weights.{initial_weight};
 ghost use Rattle.nir_ir.specs.Shaped.{IsShaped};
 ghost use Rattle.nir_mean.specs.Same.{Same};
 ghost use Rattle.nir_validate.specs.Valid.{Valid};
@@ -32,17 +33,6 @@ use std::sync::ledger::Ledger;
 /// How many rewrites there may be beside the weight of the shader.
 const SPARE_REWRITES: u64 = 4_096;
 
-/// Visits each rule of the table: its type says that it is formed, and the table's that it holds.
-fn all_hold(table: &Table)
-    ensures formed { AllFormed table.now.rules }
-    ensures hold { AllHold table.now.rules }
-{
-    for place in 0..table.len() {
-        let rule = table.rule(place as u32);
-        let _vars = rule.vars;
-    }
-}
-
 /// What became of a shader: the last one, the steps to it, and how many of them were rewrites.
 #[derive(Debug, Drop)]
 pub struct Optimised {
@@ -64,20 +54,19 @@ pub fn optimise<L: Ledger>(
     requires built { list_all is_built table.now.rules ≡ true }
     requires valid { Valid shader }
     requires form { is_first_form shader ≡ true }
-    requires enough { weight_of shader < limit }
+    requires enough { weight_of initial_weight shader < limit }
     ensures replayed { IfOk result (λ done. replay options.now table.now.rules shader done.journal ≡ Some done.shader) }
     ensures settled { IfOk result (λ done. is_settled options.now table.now.rules done.shader ≡ true) }
     ensures counted { IfOk result (λ done. done.rewrites ≡ length done.journal) }
-    ensures fewer { IfOk result (λ done. weight_of done.shader + done.rewrites ≡ weight_of shader) }
+    ensures fewer { IfOk result (λ done. weight_of initial_weight done.shader + done.rewrites ≡ weight_of initial_weight shader) }
     ensures shaped { IfOk result (λ done. IsShaped done.shader) }
     ensures valid { IfOk result (λ done. Valid done.shader) }
     ensures same { IfOk result (λ done. Same shader done.shader) }
 {
-    // The proof learns that the shader is shaped, and that the rules of the table are formed and hold.
-    let _bound = shader.next_value;
-    all_hold(table);
     let mut journal = Journal::new(alloc);
     let done = rewrite_all(alloc, shader, table, options, limit, &mut journal, steps)?;
+    // The proof learns that the last shader is shaped.
+    let _bound = done.shader.next_value;
     Ok(Optimised {
         shader: done.shader,
         journal,
@@ -102,8 +91,9 @@ pub fn printed_work<L: Ledger>(
     steps: &mut Steps<L>,
 ) -> Result<Work, OutOfMemory>
     requires built { list_all is_built table.now.rules ≡ true }
-    requires weight { built.weight ≡ weight_of built.shader }
-    requires few { built.weight ≤ 256 }
+    requires weights { (op : Opcode) → op_weight table.now op ≡ initial_weight op }
+    requires weight { built.weight ≡ weight_of (op_weight table.now) built.shader }
+    requires few { built.weight ≤ 15360 }
     requires form { is_first_form built.shader ≡ true }
     requires valid { Valid built.shader }
     ensures { IfOk result (λ work. (rule_text shader_text : List ℕ) → IsTableOf (first_rules rule_text) table.now → shader_answer shader_text ≡ Ok built.shader →

@@ -1,21 +1,42 @@
 //! The report of a run, and the line of its status.
 
-ghost use Rattle.std.specs.Prelude.{◌≡◌, ℕ, ◌++◌, List, Some, true};
-ghost use Rattle.nir_host.specs.Faults.{Rose};
-ghost use Rattle.nir_opt.specs.Answers.{has_plain_line, line_of};
-ghost use Rattle.nir_opt.specs.Work.{IsTold, Writes, idle, worked};
+ghost use Rattle.std.specs.Prelude.{◌≡◌, true};
+ghost use Rattle.nir_mean.specs.ShaderLines.{TakesLine};
+ghost use Rattle.nir_opt.specs.Answers.{has_plain_line, IsLine, IsToldAs, line_of};
+ghost use Rattle.nir_opt.specs.Work.{Writes, idle, worked};
 
 use crate::lines::{built_line, plain_line};
 use crate::optimise::Work;
 use crate::status::{Report, Status};
-use nir_host::{Sink, write_all};
+use nir_host::{Bytes, Sink, write_all};
 use nir_ir::Journal;
 use std::alloc::Global;
 
+/// A status that is told, and its line where that names a rule or a place.
+#[derive(Debug, Drop)]
+pub struct Told {
+    pub status: Status,
+    pub built: Option<Bytes>,
+}
+
+/// The status that is told: where there is no memory for its line, want of memory takes its place. It stands before the line is
+/// written, so the sink of lines has no part in it.
+pub fn with_line(alloc: Global, status: Status) -> Told
+    ensures status { IsToldAs status result.status }
+    ensures line { IsLine result.built result.status }
+{
+    match built_line(alloc, &status) {
+        Ok(built) => Told { status, built },
+        Err(_no_memory) => Told {
+            status: Status::OutOfMemory,
+            built: None,
+        },
+    }
+}
+
 /// Writes a line to `notes`, whose faults change nothing.
 fn note<N: Sink>(notes: &mut N, line: &[u8])
-    ensures { (before : List ℕ) → N.taken notes.old ≡ Some before →
-        (Rose (N.faults notes.old) (N.faults notes.new) → ⊥) → N.taken notes.new ≡ Some (before ++ line.now) }
+    ensures { TakesLine (N.taken notes.old) (N.taken notes.new) (N.faults notes.old) (N.faults notes.new) line.now }
 {
     match write_all(notes, line) {
         Ok(()) => {}
@@ -23,34 +44,25 @@ fn note<N: Sink>(notes: &mut N, line: &[u8])
     }
 }
 
-/// The report of a run that did no work. The line of its status goes to `notes`; where there is no memory for the line, the
-/// status is want of memory.
-pub fn stopped<N: Sink>(alloc: Global, notes: &mut N, status: Status) -> Report
-    ensures report { IsTold status result }
-    ensures notes { (before : List ℕ) → N.taken notes.old ≡ Some before →
-        (Rose (N.faults notes.old) (N.faults notes.new) → ⊥) → N.taken notes.new ≡ Some (before ++ line_of result.status) }
+/// Writes the line of a status that is told to `notes`.
+fn note_told<N: Sink>(notes: &mut N, told: &Told)
+    requires { IsLine told.now.built told.now.status }
+    ensures { TakesLine (N.taken notes.old) (N.taken notes.new) (N.faults notes.old) (N.faults notes.new) (line_of told.now.status) }
 {
-    match built_line(alloc, &status) {
-        Ok(Some(line)) => idle_report(alloc, notes, status, line.as_slice()),
-        Ok(None) => {
-            let line = plain_line(&status);
-            idle_report(alloc, notes, status, line)
-        }
-        Err(_no_memory) => {
-            let line = plain_line(&Status::OutOfMemory);
-            idle_report(alloc, notes, Status::OutOfMemory, line)
-        }
+    match &told.built {
+        Some(line) => note(notes, line.as_slice()),
+        None => note(notes, plain_line(&told.status)),
     }
 }
 
-/// The report of no work with this status, whose line goes to `notes`.
-fn idle_report<N: Sink>(alloc: Global, notes: &mut N, status: Status, line: &[u8]) -> Report
-    requires { line.now ≡ line_of status }
-    ensures report { result ≡ idle status }
-    ensures notes { (before : List ℕ) → N.taken notes.old ≡ Some before →
-        (Rose (N.faults notes.old) (N.faults notes.new) → ⊥) → N.taken notes.new ≡ Some (before ++ line_of status) }
+/// The report of a run that did no work. The line of its status goes to `notes`.
+pub fn stopped<N: Sink>(alloc: Global, notes: &mut N, told: Told) -> Report
+    requires { IsLine told.built told.status }
+    ensures report { result ≡ idle told.status }
+    ensures notes { TakesLine (N.taken notes.old) (N.taken notes.new) (N.faults notes.old) (N.faults notes.new) (line_of told.status) }
 {
-    note(notes, line);
+    note_told(notes, &told);
+    let Told { status, .. } = told;
     let place = status.place();
     Report {
         status,
@@ -66,8 +78,7 @@ fn idle_report<N: Sink>(alloc: Global, notes: &mut N, status: Status, line: &[u8
 pub fn finished<K: Sink, N: Sink>(out: &mut K, notes: &mut N, work: Work) -> Report
     ensures report { result ≡ worked result.status work }
     ensures written { Writes result.status work.text (K.taken out.old) (K.taken out.new) (K.faults out.old) (K.faults out.new) }
-    ensures notes { (before : List ℕ) → N.taken notes.old ≡ Some before →
-        (Rose (N.faults notes.old) (N.faults notes.new) → ⊥) → N.taken notes.new ≡ Some (before ++ line_of result.status) }
+    ensures notes { TakesLine (N.taken notes.old) (N.taken notes.new) (N.faults notes.old) (N.faults notes.new) (line_of result.status) }
 {
     let status = written(out, work.text.as_slice());
     note(notes, plain_line(&status));

@@ -1,6 +1,6 @@
 //! The top call: bytes in, bytes out.
 
-ghost use Rattle.std.specs.Prelude.{◌≡◌, ℕ, ◌↔◌, ◌≢◌, ◌++◌, IsOk, List, [], Some, false, true};
+ghost use Rattle.std.specs.Prelude.{◌≡◌, ℕ, ◌↔◌, ◌≢◌, IsOk, List, [], Some, false, true};
 ghost use Rattle.nir_host.specs.Faults.{Rose};
 ghost use Rattle.nir_host.specs.Told.{Gains};
 ghost use Rattle.nir_host.specs.Whole.{TakesFront};
@@ -8,6 +8,7 @@ ghost use Rattle.nir_ir.specs.Shader.{Shader};
 ghost use Rattle.nir_print.specs.Text.{text_of};
 ghost use Rattle.nir_text.specs.declared.fault.TextFault.{TextFault};
 ghost use Rattle.nir_mean.specs.Faults.{is_of_text};
+ghost use Rattle.nir_mean.specs.ShaderLines.{TakesLine};
 ghost use Rattle.nir_mean.specs.ShaderText.{ReadsToEnd};
 ghost use Rattle.nir_opt.specs.Answers.{AreAccepted, EndsWell, is_of_rules, has_reading, place_of, RulesFit, ShaderFits, line_of, shader_answer};
 ghost use Rattle.nir_opt.specs.FirstRules.{first_rules};
@@ -15,7 +16,7 @@ ghost use Rattle.nir_opt.specs.Ran.{Ran};
 ghost use Rattle.nir_opt.specs.Work.{IsWork};
 
 use crate::optimise::printed_work;
-use crate::report::{finished, stopped};
+use crate::report::{finished, stopped, with_line};
 use crate::status::{Report, Status};
 use crate::texts::{read_shader_text, read_table};
 use crate::words::has_reading;
@@ -72,8 +73,7 @@ pub fn run<R: Source, S: Source, K: Sink, N: Sink, L: Ledger>(
     ensures prefix { result.status ≡ Status.WriteFault → (rule_text shader_text : List ℕ) → R.left rules.old ≡ Some rule_text → S.left shader.old ≡ Some shader_text →
         (before : List ℕ) → K.taken out.old ≡ Some before →
         (last : Shader) × IsWork rule_text shader_text result.journal result.rewrites result.limit last × TakesFront before (K.taken out.new) (text_of last) }
-    ensures notes { (before : List ℕ) → N.taken notes.old ≡ Some before →
-        (Rose (N.faults notes.old) (N.faults notes.new) → ⊥) → N.taken notes.new ≡ Some (before ++ line_of result.status) }
+    ensures notes { TakesLine (N.taken notes.old) (N.taken notes.new) (N.faults notes.old) (N.faults notes.new) (line_of result.status) }
 
     // What is reported of the work.
     ensures idle { result.status ≢ Status.Ok → result.status ≢ Status.WriteFault → (result.journal ≡ []) × (result.rewrites ≡ 0) × (result.limit ≡ 0) }
@@ -101,18 +101,18 @@ fn run_in_stages<R: Source, S: Source, K: Sink, N: Sink, L: Ledger>(
         result }
 {
     if !has_reading(words) {
-        return stopped(alloc, notes, Status::Usage);
+        return stopped(alloc, notes, with_line(alloc, Status::Usage));
     }
     let table = match read_table(alloc, rules) {
         Ok(table) => table,
-        Err(status) => return stopped(alloc, notes, status),
+        Err(status) => return stopped(alloc, notes, with_line(alloc, status)),
     };
-    let built = match read_shader_text(alloc, shader) {
+    let built = match read_shader_text(alloc, &table, shader) {
         Ok(built) => built,
-        Err(status) => return stopped(alloc, notes, status),
+        Err(status) => return stopped(alloc, notes, with_line(alloc, status)),
     };
     let Ok(work) = printed_work(alloc, built, &table, steps) else {
-        return stopped(alloc, notes, Status::OutOfMemory);
+        return stopped(alloc, notes, with_line(alloc, Status::OutOfMemory));
     };
     finished(out, notes, work)
 }

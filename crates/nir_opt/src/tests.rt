@@ -42,6 +42,8 @@ struct Case<'a> {
     shader_fail: &'a [u64],
     /// How many bytes `out` takes.
     room: usize,
+    /// The calls of the sink of lines that fail.
+    notes_fail: &'a [u64],
     /// The number of the status.
     number: u8,
     out: &'a [u8],
@@ -79,6 +81,7 @@ const PRINTED: Case<'static> = Case {
     shader: Text::Whole(EMPTY_BLOCK),
     shader_fail: &[],
     room: 1000,
+    notes_fail: &[],
     number: 0,
     out: EMPTY_BLOCK,
     notes: b"",
@@ -147,9 +150,9 @@ fn sources_of(alloc: Global, case: &Case<'_>) -> Result<Sources, OutOfMemory> {
     Ok(Sources { rules, shader })
 }
 
-fn sinks_of(alloc: Global, room: usize) -> Result<Sinks, OutOfMemory> {
-    let out = MemSink::new(alloc, room, &[])?;
-    let notes = MemSink::new(alloc, 1000, &[])?;
+fn sinks_of(alloc: Global, case: &Case<'_>) -> Result<Sinks, OutOfMemory> {
+    let out = MemSink::new(alloc, case.room, &[])?;
+    let notes = MemSink::new(alloc, 1000, case.notes_fail)?;
     Ok(Sinks { out, notes })
 }
 
@@ -181,7 +184,7 @@ fn ran<L: Ledger>(
 fn uncounted(alloc: Global, case: &Case<'_>) -> Result<Left, OutOfMemory> {
     let words = words_of(alloc, case.words)?;
     let mut sources = sources_of(alloc, case)?;
-    let mut sinks = sinks_of(alloc, case.room)?;
+    let mut sinks = sinks_of(alloc, case)?;
     let ended = ran::<Brand>(
         alloc,
         words.as_slice(),
@@ -217,6 +220,23 @@ fn is_reported(rt: &impl Abort, ended: &Ended, case: &Case<'_>) {
             assert_eq!(rt; report.journal.as_slice(), case.journal);
         }
         Ended::Eval(_) => assert_eq!(rt; case.limit, 0),
+    }
+}
+
+/// The case ends as it says, though the sink of lines fails at once.
+fn ends_unheard(rt: &impl Abort, alloc: Global, case: &Case<'_>) -> Result<(), OutOfMemory> {
+    let unheard = Case {
+        notes_fail: &[0],
+        notes: b"",
+        ..*case
+    };
+    ends(rt, alloc, &unheard)
+}
+
+/// Each case ends as it says, though the sink of lines fails at once.
+fn all_end_unheard(rt: &impl Abort, alloc: Global, cases: &[Case<'_>]) {
+    for case in cases {
+        ends_unheard(rt, alloc, case).expect(rt, "memory");
     }
 }
 

@@ -6,6 +6,9 @@ ghost use Rattle.nir_host.specs.Faults.{Rose};
 ghost use Rattle.nir_mean.specs.ShaderText.{ReadsToEnd};
 ghost use Rattle.nir_search.specs.Weight.{weight_of};
 ghost use Rattle.nir_validate.specs.Valid.{Valid};
+ghost use Rattle.nir_ops.specs.declared.op.Op.{Op as Opcode};
+ghost use Rattle.rule_term.specs.Table.{op_weight};
+ghost use Rattle.rule_term.specs.Weights.{initial_weight};
 ghost use Rattle.nir_search.specs.Built.{is_built};
 ghost use Rattle.nir_opt.specs.Answers.{shader_answer};
 ghost use Rattle.nir_opt.specs.FirstForm.{is_first_form};
@@ -29,6 +32,7 @@ const MAX_RULES: u64 = 67_108_864;
 pub fn read_table<R: Source>(alloc: Global, rules: &mut R) -> Result<Table, Status>
     ensures text { (text : List ℕ) → R.left rules.old ≡ Some text → TableFits result (first_rules text) }
     ensures built { IfOk result (λ table. list_all is_built table.rules ≡ true) }
+    ensures weights { IfOk result (λ table. (op : Opcode) → op_weight table op ≡ initial_weight op) }
     ensures end { OnOk result (ReadsToEnd (R.left rules.old) (R.left rules.new)) }
     ensures stop { IfErr result (λ status. EndsRules status (Rose (R.faults rules.old) (R.faults rules.new))) }
 {
@@ -44,6 +48,7 @@ pub fn read_table<R: Source>(alloc: Global, rules: &mut R) -> Result<Table, Stat
 fn table_of(alloc: Global, text: &[u8]) -> Result<Table, Status>
     ensures text { TableFits result (first_rules text.now) }
     ensures built { IfOk result (λ table. list_all is_built table.rules ≡ true) }
+    ensures weights { IfOk result (λ table. (op : Opcode) → op_weight table op ≡ initial_weight op) }
     ensures stop { IfErr result (λ status. EndsRules status ⊥) }
 {
     match first_rules(alloc, text) {
@@ -58,6 +63,7 @@ fn checked(alloc: Global, file: RuleFile) -> Result<Table, Status>
     requires form { are_first_rules file ≡ true }
     ensures text { TableFits result (Some file) }
     ensures built { IfOk result (λ table. list_all is_built table.rules ≡ true) }
+    ensures weights { IfOk result (λ table. (op : Opcode) → op_weight table op ≡ initial_weight op) }
     ensures stop { IfErr result (λ status. EndsRules status ⊥) }
 {
     match check_file(alloc, file) {
@@ -67,18 +73,22 @@ fn checked(alloc: Global, file: RuleFile) -> Result<Table, Status>
     }
 }
 
-/// Reads the shader to its end, and finds it valid and of the form that is built.
-pub fn read_shader_text<S: Source>(alloc: Global, shader: &mut S) -> Result<Built, Status>
+/// Reads the shader to its end, and finds it valid and of the form that is built. Its weight is that by the table.
+pub fn read_shader_text<S: Source>(
+    alloc: Global,
+    table: &Table,
+    shader: &mut S,
+) -> Result<Built, Status>
     ensures text { (text : List ℕ) → S.left shader.old ≡ Some text → BuiltFits result (shader_answer text) }
     ensures end { OnOk result (ReadsToEnd (S.left shader.old) (S.left shader.new)) }
     ensures stop { IfErr result (λ status. EndsShader status (Rose (S.faults shader.old) (S.faults shader.new))) }
-    ensures weight { IfOk result (λ built. built.weight ≡ weight_of built.shader) }
-    ensures few { IfOk result (λ built. built.weight ≤ 256) }
+    ensures weight { IfOk result (λ built. built.weight ≡ weight_of (op_weight table.now) built.shader) }
+    ensures few { IfOk result (λ built. built.weight ≤ 15360) }
     ensures form { IfOk result (λ built. is_first_form built.shader ≡ true) }
     ensures valid { IfOk result (λ built. Valid built.shader) }
 {
     match read_shader_bytes(alloc, shader) {
-        Ok(text) => built_text(alloc, text.as_slice()),
+        Ok(text) => built_text(alloc, table, text.as_slice()),
         Err(ReadAllFault::ReadFault) => Err(Status::ReadFault(Which::Shader)),
         Err(ReadAllFault::TooLong) => Err(Status::TooLong(Which::Shader)),
         Err(ReadAllFault::OutOfMemory) => Err(Status::OutOfMemory),
@@ -87,12 +97,12 @@ pub fn read_shader_text<S: Source>(alloc: Global, shader: &mut S) -> Result<Buil
 
 /// The shader of a text that was read to its end. That it is valid comes before that it is built.
 #[tactic(auto, using(crate::proofs::TextAnswers::answer_long, crate::proofs::TextAnswers::answer_fault, crate::proofs::TextAnswers::answer_invalid))]
-fn built_text(alloc: Global, text: &[u8]) -> Result<Built, Status>
+fn built_text(alloc: Global, table: &Table, text: &[u8]) -> Result<Built, Status>
     requires short { length text.now ≤ 4194304 }
     ensures text { BuiltFits result (shader_answer text.now) }
     ensures stop { IfErr result (λ status. EndsShader status ⊥) }
-    ensures weight { IfOk result (λ built. built.weight ≡ weight_of built.shader) }
-    ensures few { IfOk result (λ built. built.weight ≤ 256) }
+    ensures weight { IfOk result (λ built. built.weight ≡ weight_of (op_weight table.now) built.shader) }
+    ensures few { IfOk result (λ built. built.weight ≤ 15360) }
     ensures form { IfOk result (λ built. is_first_form built.shader ≡ true) }
     ensures valid { IfOk result (λ built. Valid built.shader) }
 {
@@ -106,7 +116,7 @@ fn built_text(alloc: Global, text: &[u8]) -> Result<Built, Status>
         }
         Err(ShaderRefusal::OutOfMemory) => return Err(Status::OutOfMemory),
     };
-    match built_of(alloc, text, shader) {
+    match built_of(alloc, table, text, shader) {
         Ok(Some(built)) => Ok(built),
         Ok(None) => Err(Status::NotBuilt(Which::Shader)),
         Err(_no_memory) => Err(Status::OutOfMemory),

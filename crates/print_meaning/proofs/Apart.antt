@@ -11,7 +11,7 @@ use Rattle.nir_ir.specs.declared.node.Phi.{Phi}
 use Rattle.nir_ir.specs.Items.{Item, PhiItem, InstrItem, JumpItem, block_items, blocks_defined, blocks_of, defines, items, target, values_defined}
 use Rattle.nir_ir.specs.Nodes.{Nodes, Nil, BlockThen, IfThen, LoopThen}
 use Rattle.nir_ir.specs.Shaped.{IsOneOf}
-use Rattle.nir_print.specs.EachOf.{all_back, all_front, all_of_map, given_by_each}
+use Rattle.list_laws.specs.AllLaws.{all_back, all_front, all_of_map, given_by_each}
 use Rattle.nir_print.specs.Naming.{place}
 use Rattle.print_meaning.proofs.BlockOrder.{nat_eq-swap}
 use Rattle.print_meaning.proofs.Places.{all_members, place-below}
@@ -103,7 +103,7 @@ module _ (values blocks : ℕ → ℕ) where
       → AllByRecursion ItemApart list
   item_apart [] one two = tt
   item_apart (item ∷ list) one two =
-      ((all_of_map (IsApart values) (λ id. id.0) (defines item) one.0, all_of_map (IsApart blocks) (λ id. id.0) (blocks_of item) two.0), item_apart list one.1 two.1)
+      ((all_of_map (λ id. id.0) (IsApart values) (defines item) one.0, all_of_map (λ id. id.0) (IsApart blocks) (blocks_of item) two.0), item_apart list one.1 two.1)
 
   pub nodes_apart : (nodes : Nodes) → AllByRecursion (IsApart values) (values_defined nodes) → AllByRecursion (IsApart blocks) (blocks_defined nodes) → NodesApart values blocks nodes
   nodes_apart nodes one two =

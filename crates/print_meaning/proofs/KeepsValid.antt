@@ -7,7 +7,7 @@ use Rattle.nir_ir.specs.Items.{Item, blocks_defined, items, uses, values_defined
 use Rattle.nir_ir.specs.Nodes.{Nodes}
 use Rattle.nir_ir.specs.Shaped.{IsOneOf, IsShaped}
 use Rattle.nir_ir.specs.Shader.{Shader}
-use Rattle.nir_print.specs.EachOf.{all_of_map, given_by_each}
+use Rattle.list_laws.specs.AllLaws.{all_of_map, given_by_each}
 use Rattle.nir_print.specs.Renumber.{Numbers, new_nodes, numbers_of, renumber}
 use Rattle.nir_validate.specs.OneBlock.{VisitKept, none_told, spot_told, visit_told, visits_kept}
 use Rattle.nir_validate.specs.Placing.{order_faults}
@@ -30,7 +30,7 @@ module _ (body : Nodes) where
   same_kinds [] all = tt
   same_kinds (item ∷ list) all = (
     all_each (λ id. IsOneOf (values_defined body) id.0) (SameKind (numbers_of body) (kind_at body) (kind_at (new_nodes (numbers_of body) body)))
-        (λ id is. kind_at-renumbered body id is) (uses item) (all_of_map (IsOneOf (values_defined body)) (λ id. id.0) (uses item) all.0),
+        (λ id is. kind_at-renumbered body id is) (uses item) (all_of_map (λ id. id.0) (IsOneOf (values_defined body)) (uses item) all.0),
     same_kinds list all.1,
   )
 
@@ -41,7 +41,7 @@ parts_kept s shaped told =
     let list : List Spot = spots false s.body in
     let known : Item → Type 0 = λ item. AllByRecursion (SameKind numbers (kind_at s.body) (kind_at (renumber s).body)) (uses item) in
     let by_items : AllByRecursion known (items s.body) = same_kinds s.body (items s.body) (given_by_each (IsOneOf (values_defined s.body)) (λ item. map (λ id. id.0) (uses item)) (items s.body) shaped.uses) in
-    let by_spots : AllByRecursion (λ spot. known spot.item) list = all_of_map known (λ (spot : Spot). spot.item) list (subst (AllByRecursion known) (sym (items-spots false s.body)) by_items) in
+    let by_spots : AllByRecursion (λ spot. known spot.item) list = all_of_map (λ (spot : Spot). spot.item) known list (subst (AllByRecursion known) (sym (items-spots false s.body)) by_items) in
     subst (AllByRecursion (SpotKept (kind_at (renumber s).body) (renumber s))) (sym (spots-renamed numbers false s.body))
     (spots_kept numbers s (renumber s) refl refl refl (kind_at s.body) (kind_at (renumber s).body) list by_spots (all_kept (kind_at s.body) s 0 list told))
 

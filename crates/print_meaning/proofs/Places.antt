@@ -13,7 +13,7 @@ use Rattle.nir_ir.specs.Items.{Item, BlockHead, PhiItem, InstrItem, JumpItem, If
 use Rattle.nir_ir.specs.Nodes.{Nodes}
 use Rattle.nir_ir.specs.Shaped.{IsOneOf}
 use Rattle.nir_mean.specs.Points.{or_other}
-use Rattle.nir_print.specs.EachOf.{all_back, all_front}
+use Rattle.list_laws.specs.AllLaws.{all_back, all_front}
 use Rattle.nir_print.specs.Naming.{place}
 use Rattle.nir_print.specs.Renumber.{Numbers, new_instr, new_nodes, new_phi, new_value, numbers_of}
 use Rattle.nir_print.specs.RenumberedItems.{given-new_nodes, new_item}

@@ -16,7 +16,7 @@ use Rattle.nir_mean.specs.Outcome.{outcome, setting, start}
 use Rattle.nir_mean.specs.Renamed.{SameExit, SamePart, SameState, after_fall-same, jump_exit-same, outcome_of-same, run_choice-same, turns-same}
 use Rattle.nir_mean.specs.Run.{Setting, run_block, run_choice, run_instrs, run_list, run_phis, scalar, turns}
 use Rattle.nir_mean.specs.State.{zeros}
-use Rattle.nir_print.specs.EachOf.{all_back, all_front, all_of_map, given_by_each}
+use Rattle.list_laws.specs.AllLaws.{all_back, all_front, all_of_map, given_by_each}
 use Rattle.nir_print.specs.Renumber.{Numbers, new_block, new_block_node, new_instr, new_nodes, new_phi, new_value, numbers_of, renumber}
 use Rattle.list_laws.specs.AllLaws.{all_each}
 use Rattle.print_meaning.specs.RenumberedLaws.{RenumberedIsSame}
@@ -66,16 +66,16 @@ phis_named numbers phis all =
     all_each (λ phi. ItemNamed numbers (PhiItem phi)) (PhiNamed numbers)
     (λ phi named. record {
       defined = named.defined.0;
-      read = all_of_map (λ (id : ValueId). IsOneOf numbers.naming.values id.0) (λ source. source.value) phi.sources (all_of_map (IsOneOf numbers.naming.values) (λ id. id.0) (map (λ source. source.value) phi.sources) named.used);
-      blocks = all_of_map (λ (id : BlockId). IsOneOf numbers.naming.blocks id.0) (λ source. source.from) phi.sources (all_of_map (IsOneOf numbers.naming.blocks) (λ id. id.0) (map (λ source. source.from) phi.sources) named.from);
+      read = all_of_map (λ source. source.value) (λ (id : ValueId). IsOneOf numbers.naming.values id.0) phi.sources (all_of_map (λ id. id.0) (IsOneOf numbers.naming.values) (map (λ source. source.value) phi.sources) named.used);
+      blocks = all_of_map (λ source. source.from) (λ (id : BlockId). IsOneOf numbers.naming.blocks id.0) phi.sources (all_of_map (λ id. id.0) (IsOneOf numbers.naming.blocks) (map (λ source. source.from) phi.sources) named.from);
     })
-    phis (all_of_map (ItemNamed numbers) PhiItem phis all)
+    phis (all_of_map PhiItem (ItemNamed numbers) phis all)
 
 instrs_named : (numbers : Numbers) (instrs : List Instr) → ListNamed numbers (map InstrItem instrs) → AllByRecursion (InstrNamed numbers) instrs
 instrs_named numbers instrs all =
     all_each (λ instr. ItemNamed numbers (InstrItem instr)) (InstrNamed numbers)
     (λ instr named. record { defined = named.defined; read = named.used })
-    instrs (all_of_map (ItemNamed numbers) InstrItem instrs all)
+    instrs (all_of_map InstrItem (ItemNamed numbers) instrs all)
 
 block-same : (numbers : Numbers) (s t : Setting) (b : Block) → SameSetting numbers s t → ListNamed numbers (block_items b)
     → SamePart (by_places numbers) (run_block s b) (run_block t (new_block_node numbers b))

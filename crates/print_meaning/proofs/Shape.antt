@@ -14,7 +14,7 @@ use Rattle.nir_ir.specs.Items.{Item, BlockHead, PhiItem, InstrItem, JumpItem, If
 use Rattle.nir_ir.specs.Nodes.{Nodes}
 use Rattle.nir_ir.specs.Shaped.{IsOneOf, IsShapedInstr, IsShapedItem, IsSwizzle}
 use Rattle.nir_print.specs.BlockGroups.{all_permuted, in_block_order-permutation}
-use Rattle.nir_print.specs.EachOf.{all_append, all_back, all_front, all_of_map}
+use Rattle.list_laws.specs.AllLaws.{all_append, all_back, all_front, all_of_map}
 use Rattle.nir_print.specs.Naming.{in_block_order, place}
 use Rattle.nir_print.specs.Renumber.{Numbers, new_instr, new_nodes, new_phi_source, new_src, new_value, numbers_of}
 use Rattle.nir_print.specs.RenumberedItems.{blocks_renamed, effects_renamed, given-new_nodes, ifs_renamed, items-new_nodes, loops_renamed, new_item, places_in_order, values_renamed}
@@ -96,7 +96,7 @@ module _ (numbers : Numbers) where
       let is_one : PhiSource → Type 0 = λ source. IsOneOf list (number (part source)) in
       each_source part number list same (in_block_order numbers.naming sources)
       (all_permuted is_one sources (in_block_order numbers.naming sources) (in_block_order-permutation numbers.naming sources)
-      (all_of_map (λ a. IsOneOf list (number a)) part sources (all_of_map (IsOneOf list) number (map part sources) all)))
+      (all_of_map part (λ a. IsOneOf list (number a)) sources (all_of_map number (IsOneOf list) (map part sources) all)))
 
   uses_below : (item : Item) → AllByRecursion (IsOneOf numbers.naming.values) (map (λ id. id.0) (uses item))
       → AllByRecursion (λ k. k < length numbers.naming.values) (map (λ id. id.0) (uses (new_item numbers item)))

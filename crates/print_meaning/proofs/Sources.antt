@@ -13,7 +13,7 @@ use Rattle.nir_ir.specs.declared.ids.BlockId.{BlockId}
 use Rattle.nir_ir.specs.declared.node.Phi.{Phi}
 use Rattle.nir_ir.specs.declared.node.PhiSource.{PhiSource}
 use Rattle.nir_print.specs.BlockGroups.{all_permuted, in_block_order-permutation}
-use Rattle.nir_print.specs.EachOf.{all_append}
+use Rattle.list_laws.specs.AllLaws.{all_append}
 use Rattle.nir_print.specs.Naming.{in_block_order}
 use Rattle.nir_print.specs.Renumber.{Numbers, new_block, new_phi, new_phi_source}
 use Rattle.nir_ir.specs.Definitions.{is_from}

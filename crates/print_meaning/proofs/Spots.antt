@@ -19,7 +19,7 @@ use Rattle.nir_ir.specs.Items.{Item, BlockHead, PhiItem, InstrItem, JumpItem, If
 use Rattle.nir_ir.specs.Nodes.{Nodes, Nil, BlockThen, IfThen, LoopThen}
 use Rattle.nir_ir.specs.Shader.{Shader}
 use Rattle.nir_print.specs.BlockGroups.{all_permuted, in_block_order-permutation}
-use Rattle.nir_print.specs.EachOf.{all_both, all_of_map}
+use Rattle.list_laws.specs.AllLaws.{all_both, all_of_map}
 use Rattle.nir_print.specs.Naming.{in_block_order}
 use Rattle.nir_print.specs.Renumber.{Numbers, new_block_node, new_instr, new_nodes, new_phi_source, new_src, new_value}
 use Rattle.nir_print.specs.RenumberedItems.{items-new_block, items-new_nodes, new_item}
@@ -173,7 +173,7 @@ module _ (numbers : Numbers) (s t : Shader) (inputs : t.inputs ≡ s.inputs) (ou
       (all_permuted both_facts phi.sources sources (in_block_order-permutation numbers.naming phi.sources)
       (all_both fits known phi.sources
       (each (λ (source : PhiSource). has_kind old source.value phi.kind) fits (λ source is. is) phi.sources kept)
-      (all_of_map (SameKind numbers old new) (λ (source : PhiSource). source.value) phi.sources same)))
+      (all_of_map (λ (source : PhiSource). source.value) (SameKind numbers old new) phi.sources same)))
 
   spot_kept : (item : Item) (in_loop : Bool) → AllByRecursion (SameKind numbers old new) (uses item)
       → SpotKept old s (record { item = item; in_loop = in_loop }) → SpotKept new t (record { item = new_item numbers item; in_loop = in_loop })

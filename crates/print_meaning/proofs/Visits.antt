@@ -9,7 +9,7 @@ use Rattle.nir_ir.specs.declared.node.Jump.{Jump}
 use Rattle.nir_ir.specs.declared.node.Phi.{Phi}
 use Rattle.nir_ir.specs.Items.{BlockHead, reads}
 use Rattle.nir_ir.specs.Nodes.{Nodes, Nil, BlockThen, IfThen, LoopThen}
-use Rattle.nir_print.specs.EachOf.{all_append, all_back, all_front}
+use Rattle.list_laws.specs.AllLaws.{all_append, all_back, all_front}
 use Rattle.nir_print.specs.Renumber.{Numbers, new_block_node, new_instr, new_nodes, new_phi, new_value}
 use Rattle.nir_validate.specs.Edges.{Edge, Flow, Set, backs, either, meet, out_of_loop, set_after, set_after_instrs, set_after_phis}
 use Rattle.nir_validate.specs.OneBlock.{VisitKept}

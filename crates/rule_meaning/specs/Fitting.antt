@@ -35,6 +35,7 @@ valid_fits s valid value instr found = found_all (InstrFits s) (is_target value)
 
 pub fit_valid : (s : Shader) → ValidBlock s → (set : Set) → IsFit s.body set
 fit_valid s valid set = record {
+  widths = λ value op kind srcs inside found. (valid_fits s valid value (Alu value op kind srcs) found).widths;
   counts = λ value op kind srcs inside found. (valid_fits s valid value (Alu value op kind srcs) found).counts;
   inside = λ value op kind srcs inside found. (valid_fits s valid value (Alu value op kind srcs) found).names;
 }

@@ -1,15 +1,17 @@
--- What a match of a rule at 8 bits says: the variables are bound to views of values in the set, what they have there are words that meet the conditions, and the search side has the value at which the rule matches.
+-- What a match of a rule says: the variables are bound to views of values in the set, what they have there are words of their sizes that meet the conditions, and the search side has the value at which the rule matches.
 use Rattle.op_eval.specs.Calls.{same_width}
 use Rattle.op_eval.specs.Sizes.{same_width-same}
-use Rattle.std.specs.Prelude.{◌≡◌, refl, ◌<◌, ◌≤◌, ◌+◌, ℕ, zero, suc, true, Option, Some, None, List, [], ◌∷◌, length, replicate, slice_get, slice_index}
-use Rattle.std.proofs.Common.{sym, ◌∙◌, ap, subst, arith}
+use Rattle.std.specs.Prelude.{◌≡◌, refl, ◌<◌, ◌≤◌, ◌+◌, ℕ, zero, suc, true, Option, Some, None, List, [], ◌∷◌, ◌++◌, length, replicate, slice_get, slice_index, drop}
+use Rattle.std.proofs.Common.{sym, ◌∙◌, ap, ap₂, subst, arith}
 use Rattle.std.proofs.lemmas.Bool.{and_parts}
 use Rattle.std.proofs.lemmas.List.{length-replicate, take-replicate}
 use Rattle.std.proofs.lemmas.List.FromFn.{get_or-range_with_len, length-range_with_len}
 use Rattle.std.proofs.lemmas.Option.{get_or_from_slice_get, none-some, same_Some, slice_get-map}
 use Rattle.std.specs.List.{AllByRecursion, list_all, range_with_len}
 use Rattle.std.specs.Option.{option_map, option_map_or}
-use Rattle.nir_ops.specs.declared.width.Width.TheVariants.{W8}
+use Rattle.nir_ops.specs.declared.width.Width.{Width}
+use Rattle.nir_ops.specs.declared.width.Width.TheVariants.{W1, W8}
+use Rattle.std.proofs.lemmas.Grind.{flat_map-append}
 use Rattle.nir_ir.specs.declared.ids.ValueId.{ValueId}
 use Rattle.nir_ir.specs.declared.kind.Kind.{Kind}
 use Rattle.nir_ir.specs.Definitions.{kind_at, width_at}
@@ -17,13 +19,12 @@ use Rattle.nir_ir.specs.Nodes.{Nodes}
 use Rattle.nir_ir.specs.Shaped.{IsShaped}
 use Rattle.nir_ir.specs.Shader.{Shader}
 use Rattle.rule_term.specs.EightBit.{all_eight, is_eight_bit}
-use Rattle.rule_term.specs.EightBitLaws.{IsEight-from_is_eight_bit}
 use Rattle.rule_term.specs.Formed.{IsFormed}
 use Rattle.rule_term.specs.Holds.{are_met, are_words, is_met, is_word, values_of}
-use Rattle.rule_term.specs.Pieces.{terms_count, vars_of}
+use Rattle.rule_term.specs.Pieces.{pieces, terms_count, var_of, vars_of}
 use Rattle.rule_term.specs.Rule.{Rule}
 use Rattle.rule_term.specs.Terms.{Terms, Nil, VarThen, LitThen, AppThen}
-use Rattle.rule_term.specs.Typings.{occurrences, search_part, size_of}
+use Rattle.rule_term.specs.Typings.{Occurrence, occurrences, roots, search_part, size_of}
 use Rattle.nir_search.specs.declared.hit.Bind.{Bind}
 use Rattle.nir_search.specs.Match.{all_bound, is_typed, match_of, matches, met, root_view}
 use Rattle.nir_search.specs.Met.{is_typed_eight, length-met}
@@ -33,18 +34,18 @@ use Rattle.nir_mean.specs.Values.{Values}
 use Rattle.rule_meaning.specs.Bound.{AreBound, IsBound, IsBoundTo, all_numbered, are_bound}
 use Rattle.rule_meaning.specs.Env.{at_place, env}
 use Rattle.rule_meaning.specs.Fit.{IsFit, component_count}
-use Rattle.list_laws.specs.AllLaws.{all_each}
+use Rattle.list_laws.specs.AllLaws.{all_append, all_back, all_front}
 use Rattle.list_laws.specs.OptionLaws.{if_some}
 use Rattle.rule_meaning.specs.Views.{IsView, kind_width}
-use Rattle.rule_meaning.specs.Walked.{Agrees, IsWalked, Says, walked}
+use Rattle.nir_search.specs.Put.{bound_to}
+use Rattle.rule_meaning.specs.Walked.{Agrees, HasSize, IsWalked, Says, walked}
 
--- a variant of a rule at 8 bits matches at a value of a shader of whose values so much is known
-pub record IsMatched (s : Shader) (rule : Rule) (variant : ℕ) (value : ValueId) (kind : Kind) (subst : List Bind) (set : Set) (values : Values) : Type 0 where
+-- a variant of a rule matches at a value of a shader of whose values so much is known
+pub record IsMatch (s : Shader) (rule : Rule) (variant : ℕ) (value : ValueId) (kind : Kind) (binds : List Bind) (set : Set) (values : Values) : Type 0 where
   pub shaped : IsShaped s
   pub formed : IsFormed rule
-  pub eight : is_eight_bit rule ≡ true
   pub kind_is : kind_at s.body value ≡ Some kind
-  pub found : match_of rule variant s.body value ≡ Some subst
+  pub found : match_of rule variant s.body value ≡ Some binds
   pub known : IsKnown s.body set values
   pub fit : IsFit s.body set
   pub inside : set value.0 ≡ true
@@ -70,25 +71,126 @@ root_is_view body set value inside = record {
   comps = all_range 0 (component_count body value) (component_count body value) (omega arith);
 }
 
+-- the bit sizes that the match meets
+abbrev pub sizes_met : Shader → Rule → ℕ → ValueId → List Width
+sizes_met s rule variant value = met s.body rule.search variant (root_view s.body value ∷ [])
+
 -- the walk that a match is
 pub record IsWalk (s : Shader) (rule : Rule) (variant : ℕ) (value : ValueId) (binds : List Bind) : Type 0 where
   pub bound : List (Option Bind)
   pub matched : matches s.body rule.search variant (root_view s.body value ∷ []) (replicate rule.vars None) ≡ Some bound
   pub binds_are : all_bound bound ≡ binds
-  pub widths : list_all (same_width W8) (met s.body rule.search variant (root_view s.body value ∷ [])) ≡ true
+  pub typed : is_typed rule (sizes_met s rule variant value) ≡ true
 
-walk_of : (s : Shader) (rule : Rule) (variant : ℕ) (value : ValueId) (binds : List Bind) → IsFormed rule → is_eight_bit rule ≡ true → match_of rule variant s.body value ≡ Some binds → IsWalk s rule variant value binds
+pub walk_of : (s : Shader) (rule : Rule) (variant : ℕ) (value : ValueId) (binds : List Bind) → match_of rule variant s.body value ≡ Some binds → IsWalk s rule variant value binds
 unfolding match_of
-walk_of s rule variant value binds formed eight found =
+walk_of s rule variant value binds found =
     let views = root_view s.body value ∷ [] in
     let parts = if_some (is_typed rule (met s.body rule.search variant views)) (option_map all_bound (matches s.body rule.search variant views (replicate rule.vars None))) binds found in
     let bound = some_map all_bound (matches s.body rule.search variant views (replicate rule.vars None)) binds parts.1 in
-    record {
-      bound = bound.0;
-      matched = bound.1;
-      binds_are = bound.2;
-      widths = sym (is_typed_eight rule formed eight (met s.body rule.search variant views) (length-met s.body rule.search variant views)) ∙ parts.0;
-    }
+    record { bound = bound.0; matched = bound.1; binds_are = bound.2; typed = parts.0 }
+
+-- the view of a variable among those of all
+bound_view : (binds : List Bind) (var : ℕ) (view : Bind) → slice_get binds var ≡ Some view → bound_to binds var ≡ view
+bound_view [] var view at = absurd (none-some view at)
+bound_view (first ∷ binds) zero view at = same_Some first view at
+bound_view (first ∷ binds) (suc var) view at = bound_view binds var view at
+
+module _ (s : Shader) (rule : Rule) (variant : ℕ) (value : ValueId) (kind : Kind) (binds : List Bind) (set : Set) (values : Values) (h : IsMatch s rule variant value kind binds set values) where
+  walk : IsWalk s rule variant value binds
+  walk = walk_of s rule variant value binds h.found
+
+  went : IsWalked s.body set values (component_count s.body value) rule.search (sizes_met s rule variant value) (root_view s.body value ∷ []) (replicate rule.vars None) walk.bound
+  went =
+      walked s h.shaped set values h.known h.fit (component_count s.body value) rule.search variant (root_view s.body value ∷ []) (replicate rule.vars None) walk.bound
+      h.formed.search (sym h.formed.one_search) (root_is_view s.body set value h.inside, tt) walk.matched
+
+  each_bound : AreBound s.body set (component_count s.body value) walk.bound
+  each_bound =
+      are_bound s.body set (component_count s.body value) walk.bound
+      (λ var less. all_numbered (IsBound walk.bound) 0 rule.vars (vars_of rule.search) h.formed.numbered went.named (λ k l. absurd (omega (arith, l))) var (subst (λ n. var < n) (went.same ∙ length-replicate rule.vars None) less))
+      (went.views_kept (λ var view at. absurd (none_bound rule.vars var view at)))
+
+  pub binds_count : length binds ≡ rule.vars
+  binds_count = ap length (sym walk.binds_are) ∙ each_bound.long ∙ went.same ∙ length-replicate rule.vars None
+
+  -- each variable is bound to a view
+  pub binds_views : AllByRecursion (IsView s.body set (component_count s.body value)) binds
+  binds_views = subst (AllByRecursion (IsView s.body set (component_count s.body value))) walk.binds_are each_bound.views
+
+  pub count_is : component_count s.body value ≡ kind.count
+  count_is = ap (λ o. option_map_or (λ k. k.count) o 0) h.kind_is
+
+  is_bound : (var : ℕ) (view : Bind) → IsBoundTo walk.bound var view → slice_get binds var ≡ Some view
+  is_bound var view at = ap (λ l. slice_get l var) (sym walk.binds_are) ∙ each_bound.each var view at
+
+  agrees : (place : ℕ) → Agrees values place walk.bound (env binds values place)
+  agrees place var view at =
+      get_or_from_slice_get (env binds values place) var (at_place values place view) 0
+      (slice_get-map (at_place values place) binds var ∙ ap (option_map (at_place values place)) (is_bound var view at))
+
+  said : (place : ℕ) → place < kind.count → Says values place rule.search (sizes_met s rule variant value) (root_view s.body value ∷ []) (env binds values place)
+  said place within = went.says (env binds values place) place (subst (λ n. place < n) (sym count_is) within) (agrees place)
+
+  -- in each place the variables have words of their sizes that meet the conditions
+  pub words_met : (place : ℕ) → place < kind.count
+      → (list_all (is_word (env binds values place)) (occurrences rule.search (sizes_met s rule variant value)) ≡ true) × (list_all (is_met (env binds values place)) (occurrences rule.search (sizes_met s rule variant value)) ≡ true)
+  words_met place within = ((said place within).are_words, (said place within).are_met)
+
+  -- and the search side has the component that stands there
+  pub value_met : (place : ℕ) → place < kind.count → values_of rule.search (sizes_met s rule variant value) (env binds values place) ≡ slice_index (values value.0) place ∷ []
+  value_met place within =
+      (said place within).equal
+      ∙ ap (λ c. slice_index (values value.0) c ∷ []) (get_or-range_with_len 0 (component_count s.body value) place 0 (subst (λ n. place < n) (sym count_is) within) ∙ omega arith)
+
+  -- the size of the root is that of the value
+  pub root_met : roots rule.search (sizes_met s rule variant value) ≡ kind.width ∷ []
+  root_met = went.roots_are ∙ ap (λ o. option_map_or (λ (k : Kind). k.width) o W1 ∷ []) h.kind_is
+
+  -- and each occurrence of a variable has the size of the value whose view the variable takes
+  pub sizes_bound : AllByRecursion (λ o. width_at s.body (bound_to binds o.var).value ≡ o.width) (occurrences rule.search (sizes_met s rule variant value))
+  sizes_bound = each (occurrences rule.search (sizes_met s rule variant value)) (bound_all rule.search (sizes_met s rule variant value) went.named) went.sized where
+    bound_all : (terms : Terms) (sizes : List Width) → AllByRecursion (IsBound walk.bound) (vars_of terms) → AllByRecursion (λ (o : Occurrence). IsBound walk.bound o.var) (occurrences terms sizes)
+    bound_all Nil sizes named = tt
+    bound_all (VarThen var constant size cond rest) sizes named = (named.0, bound_all rest (drop 1 sizes) named.1)
+    bound_all (LitThen number boolean rest) sizes named = bound_all rest (drop 1 sizes) named
+    bound_all (AppThen op size once args rest) sizes named =
+        let parts = subst (AllByRecursion (IsBound walk.bound)) (flat_map-append var_of (pieces args) (pieces rest)) named in
+        all_append (λ (o : Occurrence). IsBound walk.bound o.var) (occurrences args (drop 1 sizes)) (occurrences rest (drop (suc (size_of args)) sizes))
+        (bound_all args (drop 1 sizes) (all_front (IsBound walk.bound) (vars_of args) (vars_of rest) parts))
+        (bound_all rest (drop (suc (size_of args)) sizes) (all_back (IsBound walk.bound) (vars_of args) (vars_of rest) parts))
+
+    each : (list : List Occurrence) → AllByRecursion (λ (o : Occurrence). IsBound walk.bound o.var) list → AllByRecursion (HasSize s.body walk.bound) list → AllByRecursion (λ (o : Occurrence). width_at s.body (bound_to binds o.var).value ≡ o.width) list
+    each [] named all = tt
+    each (o ∷ list) named all = (
+      ap (λ v. width_at s.body v.value) (bound_view binds o.var named.0.0 (is_bound o.var named.0.0 named.0.1)) ∙ all.0 named.0.0 named.0.1,
+      each list named.1 all.1,
+    )
+
+-- ---- a rule at 8 bits
+
+pub record IsMatched (s : Shader) (rule : Rule) (variant : ℕ) (value : ValueId) (kind : Kind) (subst : List Bind) (set : Set) (values : Values) : Type 0 where
+  pub shaped : IsShaped s
+  pub formed : IsFormed rule
+  pub eight : is_eight_bit rule ≡ true
+  pub kind_is : kind_at s.body value ≡ Some kind
+  pub found : match_of rule variant s.body value ≡ Some subst
+  pub known : IsKnown s.body set values
+  pub fit : IsFit s.body set
+  pub inside : set value.0 ≡ true
+
+all_same : (width : Width) (list : List Width) → list_all (same_width width) list ≡ true → list ≡ replicate (length list) width
+all_same width [] all = refl
+all_same width (first ∷ list) all =
+    let parts = and_parts (same_width width first) (list_all (same_width width) list) all in
+    ap₂ (λ a l. a ∷ l) (sym (same_width-same width first parts.0)) (all_same width list parts.1)
+
+pub met_eight : (s : Shader) (rule : Rule) (variant : ℕ) (value : ValueId) (binds : List Bind) → IsFormed rule → is_eight_bit rule ≡ true → match_of rule variant s.body value ≡ Some binds
+    → sizes_met s rule variant value ≡ replicate (size_of rule.search) W8
+met_eight s rule variant value binds formed eight found =
+    let sizes = sizes_met s rule variant value in
+    let long = length-met s.body rule.search variant (root_view s.body value ∷ []) in
+    all_same W8 sizes (sym (is_typed_eight rule formed eight sizes long) ∙ (walk_of s rule variant value binds found).typed) ∙ ap (λ n. replicate n W8) long
 
 first_met : (body : Nodes) (terms : Terms) (bits : ℕ) (view : Bind) (views : List Bind) → terms_count terms ≡ 1 → list_all (same_width W8) (met body terms bits (view ∷ views)) ≡ true → width_at body view.value ≡ W8
 first_met body Nil bits view views one all = absurd (omega (arith, one))
@@ -102,62 +204,42 @@ first_met body (AppThen op size once args rest) bits view views one all =
 -- where a rule at 8 bits matches, the value has 8 bits
 pub root_eight : (s : Shader) (rule : Rule) (variant : ℕ) (value : ValueId) (binds : List Bind) → IsFormed rule → is_eight_bit rule ≡ true → match_of rule variant s.body value ≡ Some binds → width_at s.body value ≡ W8
 root_eight s rule variant value binds formed eight found =
-    first_met s.body rule.search variant (root_view s.body value) [] formed.one_search (walk_of s rule variant value binds formed eight found).widths
+    let sizes = sizes_met s rule variant value in
+    first_met s.body rule.search variant (root_view s.body value) [] formed.one_search
+    (sym (is_typed_eight rule formed eight sizes (length-met s.body rule.search variant (root_view s.body value ∷ []))) ∙ (walk_of s rule variant value binds found).typed)
 
 -- the part of a typing for the search side, where each size is 8
 pub search_eight : (rule : Rule) → search_part rule (all_eight rule) ≡ replicate (size_of rule.search) W8
 search_eight rule = take-replicate (size_of rule.search) (size_of rule.search + size_of rule.replace) W8 (omega arith)
 
 module _ (s : Shader) (rule : Rule) (variant : ℕ) (value : ValueId) (kind : Kind) (binds : List Bind) (set : Set) (values : Values) (h : IsMatched s rule variant value kind binds set values) where
-  walk : IsWalk s rule variant value binds
-  walk = walk_of s rule variant value binds h.formed h.eight h.found
+  general : IsMatch s rule variant value kind binds set values
+  general = record { shaped = h.shaped; formed = h.formed; kind_is = h.kind_is; found = h.found; known = h.known; fit = h.fit; inside = h.inside }
 
-  went : IsWalked s.body set values (component_count s.body value) rule.search (size_of rule.search) (root_view s.body value ∷ []) (replicate rule.vars None) walk.bound
-  went =
-      walked s h.shaped set values h.known h.fit (component_count s.body value) rule.search (size_of rule.search) variant (root_view s.body value ∷ []) (replicate rule.vars None) walk.bound
-      (omega arith) h.formed.search (IsEight-from_is_eight_bit rule h.eight).search (sym h.formed.one_search) (root_is_view s.body set value h.inside, tt) walk.widths walk.matched
-
-  each_bound : AreBound s.body set (component_count s.body value) walk.bound
-  each_bound =
-      are_bound s.body set (component_count s.body value) walk.bound
-      (λ var less. all_numbered (IsBound walk.bound) 0 rule.vars (vars_of rule.search) h.formed.numbered went.named (λ k l. absurd (omega (arith, l))) var (subst (λ n. var < n) (went.same ∙ length-replicate rule.vars None) less))
-      (went.views_kept (λ var view at. absurd (none_bound rule.vars var view at)))
+  sizes_are : sizes_met s rule variant value ≡ search_part rule (all_eight rule)
+  sizes_are = met_eight s rule variant value binds h.formed h.eight h.found ∙ sym (search_eight rule)
 
   pub match_count : length binds ≡ rule.vars
-  match_count = ap length (sym walk.binds_are) ∙ each_bound.long ∙ went.same ∙ length-replicate rule.vars None
+  match_count = binds_count s rule variant value kind binds set values general
 
   -- each variable is bound to a view
   pub match_views : AllByRecursion (IsView s.body set (component_count s.body value)) binds
-  match_views = subst (AllByRecursion (IsView s.body set (component_count s.body value))) walk.binds_are each_bound.views
-
-  -- as many views as the rule has variables, each of a value in the set
-  pub match_bound : (length binds ≡ rule.vars) × AllByRecursion (λ bind. set bind.value.0 ≡ true) binds
-  match_bound = (match_count, all_each (IsView s.body set (component_count s.body value)) (λ bind. set bind.value.0 ≡ true) (λ bind is. is.inside) binds match_views)
+  match_views = binds_views s rule variant value kind binds set values general
 
   pub match_width : kind.width ≡ W8
   match_width = kind_width s.body value kind h.kind_is (root_eight s rule variant value binds h.formed h.eight h.found)
 
   pub root_count : component_count s.body value ≡ kind.count
-  root_count = ap (λ o. option_map_or (λ k. k.count) o 0) h.kind_is
-
-  agrees : (place : ℕ) → Agrees values place walk.bound (env binds values place)
-  agrees place var view at =
-      get_or_from_slice_get (env binds values place) var (at_place values place view) 0
-      (slice_get-map (at_place values place) binds var ∙ ap (option_map (at_place values place)) (ap (λ l. slice_get l var) (sym walk.binds_are) ∙ each_bound.each var view at))
-
-  said : (place : ℕ) → place < kind.count → Says values place rule.search (size_of rule.search) (root_view s.body value ∷ []) (env binds values place)
-  said place within = went.says (env binds values place) place (subst (λ n. place < n) (sym root_count) within) (agrees place)
+  root_count = count_is s rule variant value kind binds set values general
 
   -- in each place the variables have words of 8 bits that meet the conditions
   pub match_words : (place : ℕ) → place < kind.count → (are_words rule (all_eight rule) (env binds values place) ≡ true) × (are_met rule (all_eight rule) (env binds values place) ≡ true)
-  match_words place within = (
-    ap (λ l. list_all (is_word (env binds values place)) (occurrences rule.search l)) (search_eight rule) ∙ (said place within).are_words,
-    ap (λ l. list_all (is_met (env binds values place)) (occurrences rule.search l)) (search_eight rule) ∙ (said place within).are_met,
-  )
+  match_words place within =
+      let both = words_met s rule variant value kind binds set values general place within in (
+        ap (λ l. list_all (is_word (env binds values place)) (occurrences rule.search l)) (sym sizes_are) ∙ both.0,
+        ap (λ l. list_all (is_met (env binds values place)) (occurrences rule.search l)) (sym sizes_are) ∙ both.1,
+      )
 
   -- and the search side has the component that stands there
   pub match_value : (place : ℕ) → place < kind.count → values_of rule.search (search_part rule (all_eight rule)) (env binds values place) ≡ slice_index (values value.0) place ∷ []
-  match_value place within =
-      ap (λ l. values_of rule.search l (env binds values place)) (search_eight rule)
-      ∙ (said place within).equal
-      ∙ ap (λ c. slice_index (values value.0) c ∷ []) (get_or-range_with_len 0 (component_count s.body value) place 0 (subst (λ n. place < n) (sym root_count) within) ∙ omega arith)
+  match_value place within = ap (λ l. values_of rule.search l (env binds values place)) (sym sizes_are) ∙ value_met s rule variant value kind binds set values general place within

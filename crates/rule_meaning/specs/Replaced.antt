@@ -20,6 +20,7 @@ use Rattle.op_eval.specs.Word.{residue}
 use Rattle.nir_ir.specs.declared.ids.ValueId.{ValueId}
 use Rattle.nir_ir.specs.declared.instr.Src.{Src}
 use Rattle.nir_ir.specs.declared.kind.Kind.{Kind}
+use Rattle.nir_ir.specs.Definitions.{kind_at}
 use Rattle.nir_ir.specs.Nodes.{Nodes}
 use Rattle.nir_ir.specs.Shader.{Shader}
 use Rattle.rule_term.specs.declared.cond.Cond.{Cond}

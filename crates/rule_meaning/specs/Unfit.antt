@@ -10,6 +10,7 @@ use Rattle.op_eval.specs.Word.{residue}
 use Rattle.nir_ir.specs.declared.kind.Kind.{Kind}
 use Rattle.nir_ir.specs.declared.instr.Instr.TheVariants.{Alu, Const, Input}
 use Rattle.nir_ir.specs.declared.instr.Src.{Src}
+use Rattle.nir_ir.specs.Definitions.{kind_at}
 use Rattle.nir_ir.specs.Nodes.{Nodes, Nil, BlockThen}
 use Rattle.rule_term.specs.Terms as terms
 use Rattle.rule_term.specs.Holds.{values_of}

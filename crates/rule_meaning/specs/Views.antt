@@ -1,6 +1,6 @@
 -- The views that a match meets: each is of a value in the set, has as many components as the value at which the rule matches, and names components that its value has.
 use Rattle.std.specs.Prelude.{◌≡◌, refl, ◌<◌, ◌^◌, ◌==◌, ℕ, suc, Bool, true, false, Option, Some, None, List, [], ◌∷◌, map, length, nat_eq, slice_get, slice_index, drop}
-use Rattle.std.proofs.Common.{sym, ◌∙◌, ap, subst, arith, ⊎_elim}
+use Rattle.std.proofs.Common.{sym, ◌∙◌, ap, ap₂, subst, arith, ⊎_elim}
 use Rattle.std.proofs.lemmas.Bool.{and_parts, false≢true, or_cases, eqb-true}
 use Rattle.std.proofs.lemmas.List.{get_or-map, length-map}
 use Rattle.std.proofs.lemmas.List.FromFn.{get_or-map-range_with_len}
@@ -15,7 +15,9 @@ use Rattle.nir_ops.specs.declared.width.Width.TheVariants.{W1, W8}
 use Rattle.nir_ops.specs.Opcodes.{op_info}
 use Rattle.nir_ops.specs.Width.{width_bits}
 use Rattle.op_eval.specs.declared.shape.Shape.TheVariants.{EachPlace}
-use Rattle.op_eval.specs.Calls.{per_component, unsized_width}
+use Rattle.op_eval.specs.Calls.{per_component, sizes_fit, unsized_width}
+use Rattle.op_eval.specs.Sizes.{sizes_fit-from_Fits}
+use Rattle.nir_ops.specs.declared.width.Width.{Width}
 use Rattle.op_eval.specs.Meaning.{op_mean}
 use Rattle.op_eval.specs.Views.{column, count_at, shape_mean, shape_of, view_mean}
 use Rattle.nir_ir.specs.declared.ids.ValueId.{ValueId}
@@ -23,7 +25,7 @@ use Rattle.nir_ir.specs.declared.kind.Kind.{Kind}
 use Rattle.nir_ir.specs.declared.instr.Instr.{Instr}
 use Rattle.nir_ir.specs.declared.instr.Instr.TheVariants.{Alu, Const, Undef, Input, Output, LoadBuf, StoreBuf}
 use Rattle.nir_ir.specs.declared.instr.Src.{Src}
-use Rattle.nir_ir.specs.Definitions.{alu_at, alu_of, const_at, const_of, instr_defining, instrs, is_target, kind_at, kind_of_target, phi_defining, width_at}
+use Rattle.nir_ir.specs.Definitions.{Kinds, alu_at, alu_of, const_at, const_of, instr_defining, instrs, is_target, kind_at, kind_of_target, phi_defining, width_at}
 use Rattle.nir_ir.specs.Found.{found_shaped}
 use Rattle.nir_ir.specs.Nodes.{Nodes}
 use Rattle.nir_ir.specs.Shaped.{IsShaped}
@@ -44,7 +46,7 @@ use Rattle.rule_meaning.specs.Fit.{IsFit, IsInside, component_count}
 use Rattle.list_laws.specs.AllLaws.{all_at, all_each, all_map}
 use Rattle.list_laws.specs.OptionLaws.{found_passes}
 use Rattle.rule_meaning.specs.Parts.{all_both, passes_at}
-use Rattle.rule_term.specs.SwapLaws.{op_mean_swapped}
+use Rattle.rule_term.specs.SwapLaws.{op_mean_swapped, same_sizes}
 
 pub record IsView (body : Nodes) (set : Set) (count : ℕ) (view : Bind) : Type 0 where
   pub inside : set view.value.0 ≡ true
@@ -143,24 +145,45 @@ each_mean op w d count place args shape within =
     ap (λ s. slice_index (shape_mean s op w d count args) place) shape
     ∙ get_or-map-range_with_len (λ at. op_mean op w d (column at args)) 0 count place place 0 within (omega arith)
 
+-- a component of a result, at the bit sizes that the sources have
+pub alu_mean_at : (kinds : Kinds) (op : Op) (kind : Kind) (srcs : List Src) (values : Values) (place : ℕ) → shape_of op ≡ EachPlace → place < kind.count
+    → slice_index (alu_mean kinds op kind srcs values) place ≡ op_mean op (width_bits (unsized_width op kind.width (source_sizes kinds srcs))) (width_bits kind.width) (column place (map (read values) srcs))
+unfolding alu_mean
+alu_mean_at kinds op kind srcs values place shape within =
+    each_mean op (width_bits (unsized_width op kind.width (source_sizes kinds srcs))) (width_bits kind.width) kind.count place (map (read values) srcs) shape within
+
 -- at 8 bits an opcode without sizes of its own works at 8 bits
 pub alu_mean_eight : (body : Nodes) (op : Op) (kind : Kind) (srcs : List Src) (values : Values) (place : ℕ) → shape_of op ≡ EachPlace → is_unsized op ≡ true → kind.width ≡ W8 → place < kind.count
     → slice_index (alu_mean (kind_at body) op kind srcs values) place ≡ op_mean op 8 8 (column place (map (read values) srcs))
-unfolding alu_mean
 alu_mean_eight body op kind srcs values place shape unsized eight within =
-    let args = map (read values) srcs in
     let own : unsized_width op kind.width (source_sizes (kind_at body) srcs) ≡ W8 = ap (λ w. unsized_width op w (source_sizes (kind_at body) srcs)) eight ∙ (one_size op W8 unsized).unsized (source_sizes (kind_at body) srcs) in
-    ap (λ w. slice_index (view_mean op (width_bits w) (width_bits kind.width) kind.count args) place) own
-    ∙ ap (λ w. slice_index (view_mean op 8 (width_bits w) kind.count args) place) eight
-    ∙ each_mean op 8 8 kind.count place args shape within
+    alu_mean_at (kind_at body) op kind srcs values place shape within
+    ∙ ap (λ w. op_mean op (width_bits w) (width_bits kind.width) (column place (map (read values) srcs))) own
+    ∙ ap (λ w. op_mean op 8 (width_bits w) (column place (map (read values) srcs))) eight
 
 -- the bit size of a value is that of its kind
 pub kind_width : (body : Nodes) (value : ValueId) (kind : Kind) → kind_at body value ≡ Some kind → width_at body value ≡ W8 → kind.width ≡ W8
 kind_width body value kind is eight = sym (ap (λ o. option_map_or (λ k. k.width) o W1) is) ∙ eight
 
-kind_where : (body : Nodes) (value : ValueId) (found : Option Kind) → kind_at body value ≡ found → option_map_or (λ k. k.width) found W1 ≡ W8 → (kind : Kind) × (kind_at body value ≡ Some kind) × (kind.width ≡ W8)
-kind_where body value None is eight = absurd (omega (arith, ap width_bits eight))
-kind_where body value (Some kind) is eight = (kind, is, eight)
+-- a view that has a place is of a value that has a kind
+kind_from : (found : Option Kind) (n : ℕ) → n < option_map_or (λ (kind : Kind). kind.count) found 0 → (kind : Kind) × (found ≡ Some kind)
+kind_from None n less = absurd (omega (arith, less))
+kind_from (Some kind) n less = (kind, refl)
+
+pub viewed_kind : (body : Nodes) (set : Set) (count : ℕ) (view : Bind) (place : ℕ) → IsView body set count view → place < count → (kind : Kind) × (kind_at body view.value ≡ Some kind)
+viewed_kind body set count view place is within =
+    kind_from (kind_at body view.value) (slice_index view.comps place)
+    (all_at (λ c. c < component_count body view.value) view.comps place is.comps (subst (λ n. place < n) (sym is.places) within))
+
+-- bit sizes of a commutative opcode's first two sources that change places
+pub unsized_swapped : (op : Op) (dst : Width) (f : Src → Width) (flag : Bool) (srcs : List Src) → (flag ≡ true → is_commutative op ≡ true) → sizes_fit op dst (map f srcs) ≡ true
+    → unsized_width op dst (map f (swapped flag srcs)) ≡ unsized_width op dst (map f srcs)
+unsized_swapped op dst f true [] h fit = refl
+unsized_swapped op dst f true (a ∷ []) h fit = refl
+unsized_swapped op dst f true (a ∷ b ∷ rest) h fit =
+    let one : f a ≡ f b = same_sizes op dst (f a) (f b) (map f rest) (h refl) fit in
+    ap₂ (λ x y. unsized_width op dst (x ∷ y ∷ map f rest)) (sym one) one
+unsized_swapped op dst f false srcs h fit = refl
 
 -- an opcode that works place by place asks for as many components of each source as there are places
 source_counts : (body : Nodes) (value : ValueId) (op : Op) (set : Set) (fit : IsFit body set) (alu : IsAlu body value op) → set value.0 ≡ true → may_stand op ≡ true → AllByRecursion (λ src. length src.swizzle ≡ alu.kind.count) alu.srcs
@@ -171,11 +194,11 @@ source_counts body value op set fit alu inside stands =
     (fit.counts value op alu.kind alu.srcs inside alu.found).sources
 
 module _ (body : Nodes) (set : Set) (values : Values) (known : IsKnown body set values) where
-  -- a value of 8 bits has words of 8 bits
-  pub eight_word : (value : ValueId) (at : ℕ) → set value.0 ≡ true → width_at body value ≡ W8 → slice_index (values value.0) at < 2 ^ 8
-  eight_word value at inside eight =
-      let kind = kind_where body value (kind_at body value) refl eight in
-      subst (λ w. slice_index (values value.0) at < 2 ^ width_bits w) kind.2 ((known.kinds value kind.0 inside kind.1).words at)
+  -- what stands in a place of a view is a word of its value's bit size
+  pub word_at : (count : ℕ) (view : Bind) (place : ℕ) → IsView body set count view → place < count → at_place values place view < 2 ^ width_bits (width_at body view.value)
+  word_at count view place is within =
+      let kind = viewed_kind body set count view place is within in
+      subst (λ w. at_place values place view < 2 ^ width_bits w) (sym (ap (λ o. option_map_or (λ (k : Kind). k.width) o W1) kind.1)) ((known.kinds view.value kind.0 is.inside kind.1).words (slice_index view.comps place))
 
   -- a const in the set has its components
   const_where : (value : ValueId) (comps : List ℕ) (found : Option Instr) → set value.0 ≡ true → instr_defining value body ≡ found → option_and_then const_of found ≡ Some comps → values value.0 ≡ comps
@@ -240,16 +263,28 @@ module _ (s : Shader) (shaped : IsShaped s) (set : Set) (closed : Closed s.body 
       ∙ (found_shaped s shaped view.value (Alu view.value op alu.kind alu.srcs) alu.found).1
 
   -- the opcode makes the component in a place of those that stand there in the views of its sources
-  pub op_value : (values : Values) → IsKnown s.body set values → (flag : Bool) (place : ℕ) → (flag ≡ true → is_commutative op ≡ true) → is_unsized op ≡ true → width_at s.body view.value ≡ W8 → place < count
-      → op_mean op 8 8 (map (at_place values place) (children s.body flag view)) ≡ at_place values place view
-  op_value values known flag place commutes unsized eight within =
+  pub op_value : (values : Values) → IsKnown s.body set values → (flag : Bool) (place : ℕ) → (flag ≡ true → is_commutative op ≡ true) → place < count
+      → op_mean op (width_bits (unsized_width op (width_at s.body view.value) (map (λ child. width_at s.body child.value) (children s.body flag view)))) (width_bits (width_at s.body view.value))
+          (map (at_place values place) (children s.body flag view)) ≡ at_place values place view
+  op_value values known flag place commutes within =
       let here : place < length view.comps = subst (λ n. place < n) (sym is.places) within in
       let c = slice_index view.comps place in
       let there : c < alu.kind.count = subst (λ n. c < n) value_count (all_at (λ n. n < component_count s.body view.value) view.comps place is.comps here) in
       let long = all_each (λ src. length src.swizzle ≡ alu.kind.count) (λ src. c < length src.swizzle) (λ src e. subst (λ n. c < n) (sym e) there) alu.srcs has_counts in
-      ap (λ l. op_mean op 8 8 (map (at_place values place) l)) (alu_sources s.body op flag view alu)
-      ∙ ap (op_mean op 8 8) (map_of_map (child view.comps) (at_place values place) (swapped flag alu.srcs))
-      ∙ swapped_mean op 8 8 (λ src. at_place values place (child view.comps src)) flag alu.srcs commutes
-      ∙ ap (op_mean op 8 8) (at_children values place view.comps alu.srcs here long)
-      ∙ sym (alu_mean_eight s.body op alu.kind alu.srcs values c (shape-from_may_stand op stands) unsized (kind_width s.body view.value alu.kind (alu_kind s.body view.value op alu) eight) there)
+      let dst : width_at s.body view.value ≡ alu.kind.width = ap (λ o. option_map_or (λ (k : Kind). k.width) o W1) (alu_kind s.body view.value op alu) in
+      let f : Src → Width = λ src. width_at s.body src.value in
+      let fits = sizes_fit-from_Fits op alu.kind.width (map f alu.srcs) (fit.widths view.value op alu.kind alu.srcs is.inside alu.found) in
+      let sizes = λ (w : Width) (list : List Width). op_mean op (width_bits (unsized_width op w list)) (width_bits w) in
+      ap (λ w. sizes w (map (λ child. width_at s.body child.value) (children s.body flag view)) (map (at_place values place) (children s.body flag view))) dst
+      ∙ ap (λ l. sizes alu.kind.width (map (λ child. width_at s.body child.value) l) (map (at_place values place) l)) (alu_sources s.body op flag view alu)
+      ∙ ap (λ l. sizes alu.kind.width l (map (at_place values place) (map (child view.comps) (swapped flag alu.srcs)))) (widths_of_map view.comps (swapped flag alu.srcs))
+      ∙ ap (λ w. op_mean op (width_bits w) (width_bits alu.kind.width) (map (at_place values place) (map (child view.comps) (swapped flag alu.srcs)))) (unsized_swapped op alu.kind.width f flag alu.srcs commutes fits)
+      ∙ ap (sizes alu.kind.width (map f alu.srcs)) (map_of_map (child view.comps) (at_place values place) (swapped flag alu.srcs))
+      ∙ swapped_mean op (width_bits (unsized_width op alu.kind.width (map f alu.srcs))) (width_bits alu.kind.width) (λ src. at_place values place (child view.comps src)) flag alu.srcs commutes
+      ∙ ap (sizes alu.kind.width (map f alu.srcs)) (at_children values place view.comps alu.srcs here long)
+      ∙ sym (alu_mean_at (kind_at s.body) op alu.kind alu.srcs values c (shape-from_may_stand op stands) there)
       ∙ sym (ap (λ l. slice_index l c) (known.equal view.value (Alu view.value op alu.kind alu.srcs) is.inside alu.found))
+    where
+      widths_of_map : (comps : List ℕ) (srcs : List Src) → map (λ (c : Bind). width_at s.body c.value) (map (child comps) srcs) ≡ map (λ (src : Src). width_at s.body src.value) srcs
+      widths_of_map comps [] = refl
+      widths_of_map comps (src ∷ srcs) = ap (λ t. width_at s.body src.value ∷ t) (widths_of_map comps srcs)

@@ -49,7 +49,7 @@ size_of-two terms =
     ∙ ap (λ n. size_of (first_term terms) + n) (size_of-then (second_of_two terms) (behind_two terms))
 
 -- what is read along terms reads as many sizes as there are nodes
-roots-front : (terms : Terms) (front behind : List Width) → size_of terms ≤ length front → roots terms (front ++ behind) ≡ roots terms front
+pub roots-front : (terms : Terms) (front behind : List Width) → size_of terms ≤ length front → roots terms (front ++ behind) ≡ roots terms front
 roots-front Nil front behind enough = refl
 roots-front (VarThen var constant size cond rest) [] behind enough = absurd (omega (arith, enough))
 roots-front (VarThen var constant size cond rest) (w ∷ front) behind enough = ap (λ t. w ∷ t) (roots-front rest front behind (omega (arith, enough)))
@@ -62,7 +62,7 @@ roots-front (AppThen op size once args rest) (w ∷ front) behind enough =
     (ap (roots rest) (drop-append-le (size_of args) front behind (omega (arith, enough)))
     ∙ roots-front rest (drop (size_of args) front) behind (omega (arith, enough, long)))
 
-values_of-front : (values : List ℕ) (terms : Terms) (front behind : List Width) → size_of terms ≤ length front → values_of terms (front ++ behind) values ≡ values_of terms front values
+pub values_of-front : (values : List ℕ) (terms : Terms) (front behind : List Width) → size_of terms ≤ length front → values_of terms (front ++ behind) values ≡ values_of terms front values
 values_of-front values Nil front behind enough = refl
 values_of-front values (VarThen var constant size cond rest) [] behind enough = absurd (omega (arith, enough))
 values_of-front values (VarThen var constant size cond rest) (w ∷ front) behind enough =

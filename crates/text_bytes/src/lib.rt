@@ -7,7 +7,6 @@
 ghost use Rattle.std.specs.Prelude.{◌≡◌, ◌++◌, OnOk, decimal};
 ghost use Rattle.text_bytes.specs.Lists.{numbers_text};
 
-
 use itoa::Buffer;
 use nir_host::OutOfMemory;
 

@@ -1,6 +1,6 @@
 //! The command `eval`, through the program, over sources and sinks in memory.
 
-use super::{Case, REFUSED, Text, all_end, words_of};
+use super::{Case, REFUSED, Text, all_end, all_end_unheard, words_of};
 use crate::program::rules_at;
 
 /// Loads and stores that stand across the end of a buffer of six bytes.
@@ -319,6 +319,32 @@ static UNFIT: [Case; 5] = [
 #[test]
 fn shaders_that_do_not_fit_have_their_lines(rt: HostRuntime) {
     all_end(&rt, rt.alloc(), &UNFIT);
+}
+
+/// A byte more than is read.
+static TOO_LONG: [Case; 1] = [Case {
+    shader: Text::Repeated {
+        front: b"",
+        piece: b" ",
+        times: 4_194_305,
+        end: b"",
+    },
+    number: 9,
+    notes: b"too long: shader\n",
+    ..DONE
+}];
+
+#[test]
+fn a_shader_of_more_than_4_mib_is_not_run(rt: HostRuntime) {
+    all_end(&rt, rt.alloc(), &TOO_LONG);
+}
+
+#[test]
+fn no_status_is_changed_where_its_line_is_not_taken(rt: HostRuntime) {
+    all_end_unheard(&rt, rt.alloc(), &OUT_OF_FORM);
+    all_end_unheard(&rt, rt.alloc(), &FAULTS);
+    all_end_unheard(&rt, rt.alloc(), &UNFIT);
+    all_end_unheard(&rt, rt.alloc(), &TOO_LONG);
 }
 
 /// Words, and the place of RULES among them.

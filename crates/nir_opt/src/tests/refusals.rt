@@ -1,8 +1,9 @@
 //! Words and texts that are refused, and sources and sinks that fail.
 
-use super::rewriting::REWRITTEN;
+use super::rewriting::{DIFFER, REWRITTEN};
 use super::texts::{DOT, EMPTY_BLOCK, RULE, SIGNED_LEAST, WIDE};
-use super::{Case, NO_RULES, PRINTED, REFUSED, Text, all_end, uncounted};
+use super::validity::BROKEN;
+use super::{Case, NO_RULES, PRINTED, REFUSED, Text, all_end, all_end_unheard, uncounted};
 use nir_host::OutOfMemory;
 use std::alloc::Global;
 
@@ -309,4 +310,15 @@ static ENDED: [Case; 3] = [
 #[test]
 fn faults_end_a_run(rt: HostRuntime) {
     all_end(&rt, rt.alloc(), &ENDED);
+}
+
+#[test]
+fn no_status_is_changed_where_its_line_is_not_taken(rt: HostRuntime) {
+    all_end_unheard(&rt, rt.alloc(), &USAGE);
+    all_end_unheard(&rt, rt.alloc(), &OTHER_TEXTS);
+    all_end_unheard(&rt, rt.alloc(), &FAULTS);
+    all_end_unheard(&rt, rt.alloc(), &LONG);
+    all_end_unheard(&rt, rt.alloc(), &ENDED);
+    all_end_unheard(&rt, rt.alloc(), &DIFFER);
+    all_end_unheard(&rt, rt.alloc(), &BROKEN);
 }

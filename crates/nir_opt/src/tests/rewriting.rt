@@ -195,7 +195,7 @@ fn sixteen_rules_are_built(rt: HostRuntime) {
     all_end(&rt, rt.alloc(), &MANY_RULES);
 }
 
-static DIFFER: [Case; 4] = [
+pub(super) static DIFFER: [Case; 4] = [
     Case {
         rules: Text::Whole(
             b"[(('iadd', 'a@8', 0), 'a'), by * cases, (('ior', 'a@8', 254), 254), by * cases]",

@@ -495,7 +495,7 @@ fn conditions_are_of_one_bit(rt: HostRuntime) {
     all_are_judged(&rt, rt.alloc(), FRONT, &CONDITIONS);
 }
 
-static BROKEN: [Case; 6] = [
+pub(super) static BROKEN: [Case; 6] = [
     Case {
         shader: Text::Whole(LATE),
         notes: b"shader: V7 at item 1\n",
