@@ -22,3 +22,4 @@ pub mod EquationsLaws
 pub mod Worked
 pub mod ThenLaws
 pub mod SweptLaws
+pub mod DoorLaws
