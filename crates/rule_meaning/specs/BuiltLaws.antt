@@ -65,7 +65,7 @@ KindsTold kinds instrs = AllByRecursion (λ instr. (id : ValueId) → target ins
 
 -- ---- formed replacements
 
-var_formed : (vars var : ℕ) (constant : Bool) (size : Option Width) (cond : Option Cond) → replace_piece_formed vars (VarPiece var constant size cond) ≡ true → var < vars
+pub var_formed : (vars var : ℕ) (constant : Bool) (size : Option Width) (cond : Option Cond) → replace_piece_formed vars (VarPiece var constant size cond) ≡ true → var < vars
 var_formed vars var constant size cond h =
     let two = (and_parts (nat_lt var vars && not constant && is_none size) (is_none cond) h).0 in
     let one = (and_parts (nat_lt var vars && not constant) (is_none size) two).0 in
@@ -77,7 +77,7 @@ pub record AppFormed (vars : ℕ) (op : Op) (args rest : Terms) : Type 0 where
   pub inner : list_all (replace_piece_formed vars) (pieces args) ≡ true
   pub behind : list_all (replace_piece_formed vars) (pieces rest) ≡ true
 
-app_formed : (vars : ℕ) (op : Op) (size : Option Width) (once : Bool) (args rest : Terms) → list_all (replace_piece_formed vars) (pieces (AppThen op size once args rest)) ≡ true → AppFormed vars op args rest
+pub app_formed : (vars : ℕ) (op : Op) (size : Option Width) (once : Bool) (args rest : Terms) → list_all (replace_piece_formed vars) (pieces (AppThen op size once args rest)) ≡ true → AppFormed vars op args rest
 app_formed vars op size once args rest h =
     let parts = and_parts (replace_piece_formed vars (AppPiece op size once (terms_count args))) (list_all (replace_piece_formed vars) (pieces args ++ pieces rest)) h in
     let own = and_parts (may_stand op && nat_eq (terms_count args) (length (op_info op).inputs)) (not once) parts.0 in
@@ -90,7 +90,7 @@ pub record AppObeys (op : Op) (args rest : Terms) (widths : List Width) : Type 0
   pub inner : obeys args (drop 1 widths) ≡ true
   pub behind : obeys rest (drop (suc (size_of args)) widths) ≡ true
 
-app_obeys : (op : Op) (size : Option Width) (once : Bool) (args rest : Terms) (widths : List Width) → obeys (AppThen op size once args rest) widths ≡ true → AppObeys op args rest widths
+pub app_obeys : (op : Op) (size : Option Width) (once : Bool) (args rest : Terms) (widths : List Width) → obeys (AppThen op size once args rest) widths ≡ true → AppObeys op args rest widths
 app_obeys op size once args rest widths h =
     let last = and_parts (has_size size (first_of widths) && sizes_fit op (first_of widths) (roots args (drop 1 widths)) && obeys args (drop 1 widths)) (obeys rest (drop (suc (size_of args)) widths)) h in
     let two = and_parts (has_size size (first_of widths) && sizes_fit op (first_of widths) (roots args (drop 1 widths))) (obeys args (drop 1 widths)) last.0 in

@@ -20,3 +20,4 @@ pub mod RootLaws
 pub mod TypingLaws
 pub mod RowLaws
 pub mod BuiltLaws
+pub mod BuiltValuesLaws
