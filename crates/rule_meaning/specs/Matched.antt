@@ -29,6 +29,7 @@ use Rattle.nir_search.specs.declared.hit.Bind.{Bind}
 use Rattle.nir_search.specs.Match.{all_bound, is_typed, match_of, matches, met, root_view}
 use Rattle.nir_search.specs.Met.{is_typed_eight, length-met}
 use Rattle.nir_mean.specs.Known.{IsKnown}
+use Rattle.nir_mean.specs.Points.{Closed}
 use Rattle.nir_validate.specs.Edges.{Set}
 use Rattle.nir_mean.specs.Values.{Values}
 use Rattle.rule_meaning.specs.Bound.{AreBound, IsBound, IsBoundTo, all_numbered, are_bound}
@@ -40,13 +41,13 @@ use Rattle.rule_meaning.specs.Views.{IsView, kind_width}
 use Rattle.nir_search.specs.Put.{bound_to}
 use Rattle.rule_meaning.specs.Walked.{Agrees, HasSize, IsWalked, Says, walked}
 
--- a variant of a rule matches at a value of a shader of whose values so much is known
-pub record IsMatch (s : Shader) (rule : Rule) (variant : ℕ) (value : ValueId) (kind : Kind) (binds : List Bind) (set : Set) (values : Values) : Type 0 where
+-- a variant of a rule matches at a value of a set that holds, with each of its values, the sources of what opcodes write
+pub record IsMatch (s : Shader) (rule : Rule) (variant : ℕ) (value : ValueId) (kind : Kind) (binds : List Bind) (set : Set) : Type 0 where
   pub shaped : IsShaped s
   pub formed : IsFormed rule
   pub kind_is : kind_at s.body value ≡ Some kind
   pub found : match_of rule variant s.body value ≡ Some binds
-  pub known : IsKnown s.body set values
+  pub closed : Closed s.body set
   pub fit : IsFit s.body set
   pub inside : set value.0 ≡ true
 
@@ -96,13 +97,13 @@ bound_view [] var view at = absurd (none-some view at)
 bound_view (first ∷ binds) zero view at = same_Some first view at
 bound_view (first ∷ binds) (suc var) view at = bound_view binds var view at
 
-module _ (s : Shader) (rule : Rule) (variant : ℕ) (value : ValueId) (kind : Kind) (binds : List Bind) (set : Set) (values : Values) (h : IsMatch s rule variant value kind binds set values) where
+module _ (s : Shader) (rule : Rule) (variant : ℕ) (value : ValueId) (kind : Kind) (binds : List Bind) (set : Set) (h : IsMatch s rule variant value kind binds set) where
   walk : IsWalk s rule variant value binds
   walk = walk_of s rule variant value binds h.found
 
-  went : IsWalked s.body set values (component_count s.body value) rule.search (sizes_met s rule variant value) (root_view s.body value ∷ []) (replicate rule.vars None) walk.bound
+  went : IsWalked s.body set (component_count s.body value) rule.search (sizes_met s rule variant value) (root_view s.body value ∷ []) (replicate rule.vars None) walk.bound
   went =
-      walked s h.shaped set values h.known h.fit (component_count s.body value) rule.search variant (root_view s.body value ∷ []) (replicate rule.vars None) walk.bound
+      walked s h.shaped set h.closed h.fit (component_count s.body value) rule.search variant (root_view s.body value ∷ []) (replicate rule.vars None) walk.bound
       h.formed.search (sym h.formed.one_search) (root_is_view s.body set value h.inside, tt) walk.matched
 
   each_bound : AreBound s.body set (component_count s.body value) walk.bound
@@ -124,23 +125,23 @@ module _ (s : Shader) (rule : Rule) (variant : ℕ) (value : ValueId) (kind : Ki
   is_bound : (var : ℕ) (view : Bind) → IsBoundTo walk.bound var view → slice_get binds var ≡ Some view
   is_bound var view at = ap (λ l. slice_get l var) (sym walk.binds_are) ∙ each_bound.each var view at
 
-  agrees : (place : ℕ) → Agrees values place walk.bound (env binds values place)
-  agrees place var view at =
+  agrees : (values : Values) (place : ℕ) → Agrees values place walk.bound (env binds values place)
+  agrees values place var view at =
       get_or_from_slice_get (env binds values place) var (at_place values place view) 0
       (slice_get-map (at_place values place) binds var ∙ ap (option_map (at_place values place)) (is_bound var view at))
 
-  said : (place : ℕ) → place < kind.count → Says values place rule.search (sizes_met s rule variant value) (root_view s.body value ∷ []) (env binds values place)
-  said place within = went.says (env binds values place) place (subst (λ n. place < n) (sym count_is) within) (agrees place)
+  said : (values : Values) → IsKnown s.body set values → (place : ℕ) → place < kind.count → Says values place rule.search (sizes_met s rule variant value) (root_view s.body value ∷ []) (env binds values place)
+  said values known place within = went.says values known (env binds values place) place (subst (λ n. place < n) (sym count_is) within) (agrees values place)
 
   -- in each place the variables have words of their sizes that meet the conditions
-  pub words_met : (place : ℕ) → place < kind.count
+  pub words_met : (values : Values) → IsKnown s.body set values → (place : ℕ) → place < kind.count
       → (list_all (is_word (env binds values place)) (occurrences rule.search (sizes_met s rule variant value)) ≡ true) × (list_all (is_met (env binds values place)) (occurrences rule.search (sizes_met s rule variant value)) ≡ true)
-  words_met place within = ((said place within).are_words, (said place within).are_met)
+  words_met values known place within = ((said values known place within).are_words, (said values known place within).are_met)
 
   -- and the search side has the component that stands there
-  pub value_met : (place : ℕ) → place < kind.count → values_of rule.search (sizes_met s rule variant value) (env binds values place) ≡ slice_index (values value.0) place ∷ []
-  value_met place within =
-      (said place within).equal
+  pub value_met : (values : Values) → IsKnown s.body set values → (place : ℕ) → place < kind.count → values_of rule.search (sizes_met s rule variant value) (env binds values place) ≡ slice_index (values value.0) place ∷ []
+  value_met values known place within =
+      (said values known place within).equal
       ∙ ap (λ c. slice_index (values value.0) c ∷ []) (get_or-range_with_len 0 (component_count s.body value) place 0 (subst (λ n. place < n) (sym count_is) within) ∙ omega arith)
 
   -- the size of the root is that of the value
@@ -213,33 +214,33 @@ pub search_eight : (rule : Rule) → search_part rule (all_eight rule) ≡ repli
 search_eight rule = take-replicate (size_of rule.search) (size_of rule.search + size_of rule.replace) W8 (omega arith)
 
 module _ (s : Shader) (rule : Rule) (variant : ℕ) (value : ValueId) (kind : Kind) (binds : List Bind) (set : Set) (values : Values) (h : IsMatched s rule variant value kind binds set values) where
-  general : IsMatch s rule variant value kind binds set values
-  general = record { shaped = h.shaped; formed = h.formed; kind_is = h.kind_is; found = h.found; known = h.known; fit = h.fit; inside = h.inside }
+  general : IsMatch s rule variant value kind binds set
+  general = record { shaped = h.shaped; formed = h.formed; kind_is = h.kind_is; found = h.found; closed = h.known.closed; fit = h.fit; inside = h.inside }
 
   sizes_are : sizes_met s rule variant value ≡ search_part rule (all_eight rule)
   sizes_are = met_eight s rule variant value binds h.formed h.eight h.found ∙ sym (search_eight rule)
 
   pub match_count : length binds ≡ rule.vars
-  match_count = binds_count s rule variant value kind binds set values general
+  match_count = binds_count s rule variant value kind binds set general
 
   -- each variable is bound to a view
   pub match_views : AllByRecursion (IsView s.body set (component_count s.body value)) binds
-  match_views = binds_views s rule variant value kind binds set values general
+  match_views = binds_views s rule variant value kind binds set general
 
   pub match_width : kind.width ≡ W8
   match_width = kind_width s.body value kind h.kind_is (root_eight s rule variant value binds h.formed h.eight h.found)
 
   pub root_count : component_count s.body value ≡ kind.count
-  root_count = count_is s rule variant value kind binds set values general
+  root_count = count_is s rule variant value kind binds set general
 
   -- in each place the variables have words of 8 bits that meet the conditions
   pub match_words : (place : ℕ) → place < kind.count → (are_words rule (all_eight rule) (env binds values place) ≡ true) × (are_met rule (all_eight rule) (env binds values place) ≡ true)
   match_words place within =
-      let both = words_met s rule variant value kind binds set values general place within in (
+      let both = words_met s rule variant value kind binds set general values h.known place within in (
         ap (λ l. list_all (is_word (env binds values place)) (occurrences rule.search l)) (sym sizes_are) ∙ both.0,
         ap (λ l. list_all (is_met (env binds values place)) (occurrences rule.search l)) (sym sizes_are) ∙ both.1,
       )
 
   -- and the search side has the component that stands there
   pub match_value : (place : ℕ) → place < kind.count → values_of rule.search (search_part rule (all_eight rule)) (env binds values place) ≡ slice_index (values value.0) place ∷ []
-  match_value place within = ap (λ l. values_of rule.search l (env binds values place)) (sym sizes_are) ∙ value_met s rule variant value kind binds set values general place within
+  match_value place within = ap (λ l. values_of rule.search l (env binds values place)) (sym sizes_are) ∙ value_met s rule variant value kind binds set general values h.known place within

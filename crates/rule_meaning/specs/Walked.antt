@@ -36,6 +36,7 @@ use Rattle.nir_search.specs.declared.hit.Bind.{Bind}
 use Rattle.rule_term.specs.Variants.{bits_behind, bits_left, is_commutative, is_swapped}
 use Rattle.nir_search.specs.Match.{bind, children, has_op, is_applied, is_literal, is_taken, matches, meets, met}
 use Rattle.nir_mean.specs.Known.{IsKnown}
+use Rattle.nir_mean.specs.Points.{Closed}
 use Rattle.nir_validate.specs.Edges.{Set}
 use Rattle.nir_mean.specs.Values.{Values}
 use Rattle.rule_meaning.specs.Bound.{AreViews, Extends, IsBound, IsBoundTo, IsTaken, taken}
@@ -59,14 +60,14 @@ pub record Says (values : Values) (place : ℕ) (terms : Terms) (sizes : List Wi
 abbrev pub HasSize : Nodes → List (Option Bind) → Occurrence → Type 0
 HasSize body bound o = (view : Bind) → IsBoundTo bound o.var view → width_at body view.value ≡ o.width
 
-pub record IsWalked (body : Nodes) (set : Set) (values : Values) (count : ℕ) (terms : Terms) (sizes : List Width) (views : List Bind) (before after : List (Option Bind)) : Type 0 where
+pub record IsWalked (body : Nodes) (set : Set) (count : ℕ) (terms : Terms) (sizes : List Width) (views : List Bind) (before after : List (Option Bind)) : Type 0 where
   pub same : length after ≡ length before
   pub extends : Extends before after
   pub views_kept : AreViews body set count before → AreViews body set count after
   pub named : AllByRecursion (IsBound after) (vars_of terms)
   pub roots_are : roots terms sizes ≡ map (λ view. width_at body view.value) views
   pub sized : AllByRecursion (HasSize body after) (occurrences terms sizes)
-  pub says : (words : List ℕ) (place : ℕ) → place < count → Agrees values place after words → Says values place terms sizes views words
+  pub says : (values : Values) → IsKnown body set values → (words : List ℕ) (place : ℕ) → place < count → Agrees values place after words → Says values place terms sizes views words
 
 -- conditions on uses and on consts ask nothing of a word
 asks_nothing_const : (w x : ℕ) → cond_holds NotConst w x ≡ true
@@ -109,24 +110,21 @@ occurrences-front (AppThen op size once args rest) (width ∷ front) behind long
     ∙ ap (λ l. occurrences args front ++ occurrences rest l) (drop-append-le (size_of args) front behind (omega (arith, long)))
     ∙ ap (λ t. occurrences args front ++ t) (occurrences-front rest (drop (size_of args) front) behind (subst (λ n. size_of rest ≤ n) (sym (length-drop (size_of args) front)) (omega (arith, long))))
 
-module _ (body : Nodes) (set : Set) (values : Values) (known : IsKnown body set values) (count : ℕ) where
+module _ (body : Nodes) (set : Set) (count : ℕ) where
   -- a view that meets a condition has words that do
-  cond_met : (cond : Cond) (view : Bind) (place : ℕ) → IsView body set count view → place < count → meets body view cond ≡ true → cond_holds cond (width_bits (width_at body view.value)) (at_place values place view) ≡ true
-  cond_met NotConst view place is within h = asks_nothing_const (width_bits (width_at body view.value)) (at_place values place view)
-  cond_met UsedOnce view place is within h = asks_nothing_uses (width_bits (width_at body view.value)) (at_place values place view)
-  cond_met cond view place is within h = viewed_word body set values known count (λ word. cond_holds cond (width_bits (width_at body view.value)) word) view place is within h
+  cond_met : (values : Values) → IsKnown body set values → (cond : Cond) (view : Bind) (place : ℕ) → IsView body set count view → place < count → meets body view cond ≡ true → cond_holds cond (width_bits (width_at body view.value)) (at_place values place view) ≡ true
+  cond_met values known NotConst view place is within h = asks_nothing_const (width_bits (width_at body view.value)) (at_place values place view)
+  cond_met values known UsedOnce view place is within h = asks_nothing_uses (width_bits (width_at body view.value)) (at_place values place view)
+  cond_met values known cond view place is within h = viewed_word body set values known count (λ word. cond_holds cond (width_bits (width_at body view.value)) word) view place is within h
 
-  option_met : (cond : Option Cond) (view : Bind) (place : ℕ) → IsView body set count view → place < count → option_map_or (meets body view) cond true ≡ true → meets_cond cond (width_at body view.value) (at_place values place view) ≡ true
-  option_met None view place is within h = refl
-  option_met (Some cond) view place is within h = cond_met cond view place is within h
+  option_met : (values : Values) → IsKnown body set values → (cond : Option Cond) (view : Bind) (place : ℕ) → IsView body set count view → place < count → option_map_or (meets body view) cond true ≡ true → meets_cond cond (width_at body view.value) (at_place values place view) ≡ true
+  option_met values known None view place is within h = refl
+  option_met values known (Some cond) view place is within h = cond_met values known cond view place is within h
 
   module _ (view : Bind) (views : List Bind) (is : IsView body set count view) (sizes : List Width) where
-    own_size : Width
-    own_size = width_at body view.value
-
     walked_var : (var : ℕ) (constant : Bool) (size : Option Width) (cond : Option Cond) (rest : Terms) (before mid after : List (Option Bind))
-        → is_taken body constant cond view ≡ true → IsTaken body set count var view before mid → IsWalked body set values count rest sizes views mid after
-        → IsWalked body set values count (VarThen var constant size cond rest) (width_at body view.value ∷ sizes) (view ∷ views) before after
+        → is_taken body constant cond view ≡ true → IsTaken body set count var view before mid → IsWalked body set count rest sizes views mid after
+        → IsWalked body set count (VarThen var constant size cond rest) (width_at body view.value ∷ sizes) (view ∷ views) before after
     walked_var var constant size cond rest before mid after takes here more =
         let bound : IsBoundTo after var view = more.extends var view here.here in
         let met = (and_parts (if constant then is_some (const_at body view.value) else true) (option_map_or (meets body view) cond true) takes).1 in
@@ -137,21 +135,21 @@ module _ (body : Nodes) (set : Set) (values : Values) (known : IsKnown body set 
           named = ((view, bound), more.named);
           roots_are = ap (λ t. width_at body view.value ∷ t) more.roots_are;
           sized = ((λ other at. ap (λ v. width_at body v.value) (bound_once after var other view at bound)), more.sized);
-          says = λ words place within agrees.
+          says = λ values known words place within agrees.
               let own : slice_index_or words var 0 ≡ at_place values place view = agrees var view bound in
-              let behind = more.says words place within agrees in
+              let behind = more.says values known words place within agrees in
               record {
                 equal = ap (λ x. x ∷ values_of rest sizes words) own ∙ ap (λ t. at_place values place view ∷ t) behind.equal;
                 are_words = and_from (is_word words (record { var = var; width = width_at body view.value; cond = cond })) (list_all (is_word words) (occurrences rest sizes))
                     (lt-ltb (slice_index_or words var 0) (2 ^ width_bits (width_at body view.value)) (subst (λ x. x < 2 ^ width_bits (width_at body view.value)) (sym own) (word_at body set values known count view place is within))) behind.are_words;
                 are_met = and_from (is_met words (record { var = var; width = width_at body view.value; cond = cond })) (list_all (is_met words) (occurrences rest sizes))
-                    (ap (meets_cond cond (width_at body view.value)) own ∙ option_met cond view place is within met) behind.are_met;
+                    (ap (meets_cond cond (width_at body view.value)) own ∙ option_met values known cond view place is within met) behind.are_met;
               };
         }
 
     walked_lit : (value : ℤ) (boolean : Bool) (rest : Terms) (before after : List (Option Bind))
-        → is_literal body value view ≡ true → IsWalked body set values count rest sizes views before after
-        → IsWalked body set values count (LitThen value boolean rest) (width_at body view.value ∷ sizes) (view ∷ views) before after
+        → is_literal body value view ≡ true → IsWalked body set count rest sizes views before after
+        → IsWalked body set count (LitThen value boolean rest) (width_at body view.value ∷ sizes) (view ∷ views) before after
     walked_lit value boolean rest before after literal more = record {
       same = more.same;
       extends = more.extends;
@@ -159,8 +157,8 @@ module _ (body : Nodes) (set : Set) (values : Values) (known : IsKnown body set 
       named = more.named;
       roots_are = ap (λ t. width_at body view.value ∷ t) more.roots_are;
       sized = more.sized;
-      says = λ words place within agrees.
-          let behind = more.says words place within agrees in
+      says = λ values known words place within agrees.
+          let behind = more.says values known words place within agrees in
           let own : at_place values place view ≡ residue (width_bits (width_at body view.value)) value =
           eqb-true _ _ (viewed_word body set values known count (λ word. nat_eq word (residue (width_bits (width_at body view.value)) value)) view place is within literal) in
           record {
@@ -172,9 +170,9 @@ module _ (body : Nodes) (set : Set) (values : Values) (known : IsKnown body set 
 
     walked_app : (op : Op) (size : Option Width) (once : Bool) (args rest : Terms) (sources : List Bind) (under_sizes : List Width) (before mid after : List (Option Bind))
         → length under_sizes ≡ size_of args
-        → ((place : ℕ) → place < count → op_mean op (width_bits (unsized_width op (width_at body view.value) (map (λ child. width_at body child.value) sources))) (width_bits (width_at body view.value)) (map (at_place values place) sources) ≡ at_place values place view)
-        → IsWalked body set values count args under_sizes sources before mid → IsWalked body set values count rest sizes views mid after
-        → IsWalked body set values count (AppThen op size once args rest) (width_at body view.value ∷ under_sizes ++ sizes) (view ∷ views) before after
+        → ((values : Values) → IsKnown body set values → (place : ℕ) → place < count → op_mean op (width_bits (unsized_width op (width_at body view.value) (map (λ child. width_at body child.value) sources))) (width_bits (width_at body view.value)) (map (at_place values place) sources) ≡ at_place values place view)
+        → IsWalked body set count args under_sizes sources before mid → IsWalked body set count rest sizes views mid after
+        → IsWalked body set count (AppThen op size once args rest) (width_at body view.value ∷ under_sizes ++ sizes) (view ∷ views) before after
     walked_app op size once args rest sources under_sizes before mid after long makes under more =
         let all = under_sizes ++ sizes in
         let enough : size_of args ≤ length under_sizes = omega (arith, long) in
@@ -191,14 +189,14 @@ module _ (body : Nodes) (set : Set) (values : Values) (known : IsKnown body set 
           sized = all_append (HasSize body after) (occurrences args all) (occurrences rest (drop (size_of args) all))
               (subst (AllByRecursion (HasSize body after)) (sym occurs) (sized_on body args mid after under_sizes under.named more.extends under.sized))
               (subst (λ l. AllByRecursion (HasSize body after) (occurrences rest l)) (sym left) more.sized);
-          says = λ words place within agrees.
-              let behind = more.says words place within agrees in
-              let inner = under.says words place within (λ var other at. agrees var other (more.extends var other at)) in
+          says = λ values known words place within agrees.
+              let behind = more.says values known words place within agrees in
+              let inner = under.says values known words place within (λ var other at. agrees var other (more.extends var other at)) in
               record {
                 equal = ap (λ l. op_mean op (width_bits (unsized_width op (width_at body view.value) l)) (width_bits (width_at body view.value)) (values_of args all words) ∷ values_of rest (drop (size_of args) all) words) roots_in
                     ∙ ap (λ l. op_mean op (width_bits (unsized_width op (width_at body view.value) (map (λ child. width_at body child.value) sources))) (width_bits (width_at body view.value)) l ∷ values_of rest (drop (size_of args) all) words)
                     (values_of-front words args under_sizes sizes enough ∙ inner.equal)
-                    ∙ ap (λ x. x ∷ values_of rest (drop (size_of args) all) words) (makes place within)
+                    ∙ ap (λ x. x ∷ values_of rest (drop (size_of args) all) words) (makes values known place within)
                     ∙ ap (λ l. at_place values place view ∷ values_of rest l words) left
                     ∙ ap (λ t. at_place values place view ∷ t) behind.equal;
                 are_words = list_all-append (is_word words) (occurrences args all) (occurrences rest (drop (size_of args) all))
@@ -210,33 +208,33 @@ module _ (body : Nodes) (set : Set) (values : Values) (known : IsKnown body set 
               };
         }
 
-module _ (s : Shader) (shaped : IsShaped s) (set : Set) (values : Values) (known : IsKnown s.body set values) (fit : IsFit s.body set) (count : ℕ) where
+module _ (s : Shader) (shaped : IsShaped s) (set : Set) (closed : Closed s.body set) (fit : IsFit s.body set) (count : ℕ) where
   -- the terms are matched with as many views, at the sizes that are met
   pub walked : (terms : Terms) (bits : ℕ) (views : List Bind) (before after : List (Option Bind))
       → list_all search_piece_formed (pieces terms) ≡ true → length views ≡ terms_count terms → AllByRecursion (IsView s.body set count) views
-      → matches s.body terms bits views before ≡ Some after → IsWalked s.body set values count terms (met s.body terms bits views) views before after
+      → matches s.body terms bits views before ≡ Some after → IsWalked s.body set count terms (met s.body terms bits views) views before after
   walked Nil bits (view ∷ views) before after formed long all h = absurd (omega (arith, long))
   walked Nil bits [] before after formed long all h =
-      subst (IsWalked s.body set values count Nil [] [] before) (same_Some before after h) (record {
+      subst (IsWalked s.body set count Nil [] [] before) (same_Some before after h) (record {
         same = refl;
         extends = λ k other at. at;
         views_kept = λ are. are;
         named = tt;
         roots_are = refl;
         sized = tt;
-        says = λ words place within agrees. record { equal = refl; are_words = refl; are_met = refl };
+        says = λ values known words place within agrees. record { equal = refl; are_words = refl; are_met = refl };
       })
   walked (VarThen var constant size cond rest) bits [] before after formed long all h = absurd (omega (arith, long))
   walked (VarThen var constant size cond rest) bits (view ∷ views) before after formed long all h =
       let chosen = if_some (is_taken s.body constant cond view) (option_and_then (matches s.body rest bits views) (bind var view before)) after h in
       let step = between (bind var view before) (matches s.body rest bits views) after chosen.1 in
-      walked_var s.body set values known count view views all.0 (met s.body rest bits views) var constant size cond rest before step.middle after chosen.0
+      walked_var s.body set count view views all.0 (met s.body rest bits views) var constant size cond rest before step.middle after chosen.0
       (taken s.body set count var view before step.middle step.before)
       (walked rest bits views step.middle after (and_parts true (list_all search_piece_formed (pieces rest)) formed).1 (suc_inj long) all.1 step.behind)
   walked (LitThen value boolean rest) bits [] before after formed long all h = absurd (omega (arith, long))
   walked (LitThen value boolean rest) bits (view ∷ views) before after formed long all h =
       let chosen = if_some (is_literal s.body value view) (matches s.body rest bits views before) after h in
-      walked_lit s.body set values known count view views all.0 (met s.body rest bits views) value boolean rest before after chosen.0
+      walked_lit s.body set count view views all.0 (met s.body rest bits views) value boolean rest before after chosen.0
       (walked rest bits views before after (and_parts (literal_formed value boolean) (list_all search_piece_formed (pieces rest)) formed).1 (suc_inj long) all.1 chosen.1)
   walked (AppThen op size once args rest) bits [] before after formed long all h = absurd (omega (arith, long))
   walked (AppThen op size once args rest) bits (view ∷ views) before after formed long all h =
@@ -250,9 +248,9 @@ module _ (s : Shader) (shaped : IsShaped s) (set : Set) (values : Values) (known
       let form = and_parts (may_stand op && nat_eq (terms_count args) (length (op_info op).inputs)) (list_all search_piece_formed (pieces args ++ pieces rest)) formed in
       let own = and_parts (may_stand op) (nat_eq (terms_count args) (length (op_info op).inputs)) form.0 in
       let forms = passes_append search_piece_formed (pieces args) (pieces rest) form.1 in
-      let count_is : length sources ≡ terms_count args = children_count s shaped set known.closed fit count op view all.0 applied own.0 flag ∙ sym (eqb-true (terms_count args) (length (op_info op).inputs) own.1) in
-      walked_app s.body set values known count view views all.0 (met s.body rest behind views) op size once args rest sources (met s.body args inner sources) before step.middle after
+      let count_is : length sources ≡ terms_count args = children_count s shaped set closed fit count op view all.0 applied own.0 flag ∙ sym (eqb-true (terms_count args) (length (op_info op).inputs) own.1) in
+      walked_app s.body set count view views all.0 (met s.body rest behind views) op size once args rest sources (met s.body args inner sources) before step.middle after
       (length-met s.body args inner sources)
-      (λ place within. op_value s shaped set known.closed fit count op view all.0 applied own.0 values known flag place (λ e. (and_parts (is_commutative op) (nat_eq (bits % 2) 1) e).0) within)
-      (walked args inner sources before step.middle forms.0 count_is (children_views s shaped set known.closed fit count op view all.0 applied own.0 flag) step.before)
+      (λ values known place within. op_value s shaped set closed fit count op view all.0 applied own.0 values known flag place (λ e. (and_parts (is_commutative op) (nat_eq (bits % 2) 1) e).0) within)
+      (walked args inner sources before step.middle forms.0 count_is (children_views s shaped set closed fit count op view all.0 applied own.0 flag) step.before)
       (walked rest behind views step.middle after forms.1 (suc_inj long) all.1 step.behind)
