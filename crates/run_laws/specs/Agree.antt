@@ -41,13 +41,15 @@ pub record AreCompared (s t : Shader) (kinds : Kinds) (makings : Makings) : Type
 -- they mean the same where the second is the first, changed in parts that do what they did ..
 abbrev pub ChangedPartsMeanSame : Type 0
 ChangedPartsMeanSame =
-    (s t : Shader) (c : Change) (kinds : Kinds) (makings : Makings) (kept : Set) → IsShaped s → IsShaped t → Valid s → AreCompared s t kinds makings → t.body ≡ changed c s.body
+    (s t : Shader) (c : Change) (kinds : Kinds) (makings : Makings) (kept : Set)
+    → IsShaped s → IsShaped t → Valid s → AreCompared s t kinds makings → t.body ≡ changed c s.body
     → ((inputs : List (List ℕ)) (repeats : ℕ) → InputsFit s.inputs inputs → Simulates (basis_in s kinds makings) (Agree kept) inputs repeats c) → Same s t
 
 -- .. and where they are alike part by part, or as lists where a list was changed as a whole
 abbrev pub AlikePartsMeanSame : Type 0
 AlikePartsMeanSame =
-    (s t : Shader) (kinds : Kinds) (makings : Makings) (kept : Set) (ρ : Naming) → IsShaped s → IsShaped t → Valid s → AreCompared s t kinds makings → ρ None ≡ None
+    (s t : Shader) (kinds : Kinds) (makings : Makings) (kept : Set) (ρ : Naming)
+    → IsShaped s → IsShaped t → Valid s → AreCompared s t kinds makings → ρ None ≡ None
     → ((inputs : List (List ℕ)) (repeats : ℕ) → InputsFit s.inputs inputs
     → Alike (under (basis_in s kinds makings) inputs repeats) (Tied (basis_in s kinds makings) (Agree kept)) ρ s.body t.body (entry ∷ []) [])
     → Same s t

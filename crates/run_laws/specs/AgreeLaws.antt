@@ -123,7 +123,7 @@ changed_parts-mean_same s t c kinds makings kept shaped other valid compared bod
     follow_same s t kinds makings kept same_names shaped other compared refl
     (λ inputs repeats given.
     subst (λ nodes. Follows (under basis inputs repeats) (Tied basis (Agree kept)) same_names s.body nodes (entry ∷ []) []) (sym body)
-    (changed_follows basis (Agree kept) inputs repeats c given (simulates inputs repeats given) s.body (entry ∷ []) [] (each_in s t kinds makings shaped valid compared) (closed-none basis) tt))
+    (changed_follows basis (Agree kept) inputs repeats c given (simulates inputs repeats given) s.body (entry ∷ []) [] (record { parts = each_in s t kinds makings shaped valid compared; closed = closed-none basis; again = tt; below = tt })))
 
 pub alike_parts-mean_same : AlikePartsMeanSame
 alike_parts-mean_same s t kinds makings kept ρ shaped other valid compared named alike =

@@ -1,6 +1,6 @@
--- The central fact: wherever a run comes to, at each block, at each if and at each way out of a list, what is known holds of the values that are defined on every path there.
+-- The central fact: wherever a run comes to, at each block, at each if and at each way out of a list, what is known holds of the values that
+-- are defined on every path there.
 use Rattle.std.specs.Prelude.{◌≡◌, ℕ, zero, suc, Bool, true, false, nat_eq, List, [], ◌∷◌, ◌++◌, Option, None}
-use Rattle.std.specs.List.{AllByRecursion}
 use Rattle.nir_ir.specs.declared.ids.BlockId.{BlockId}
 use Rattle.nir_ir.specs.declared.ids.ValueId.{ValueId}
 use Rattle.nir_ir.specs.declared.node.Block.{Block}
@@ -8,7 +8,7 @@ use Rattle.nir_ir.specs.Definitions.{kind_at}
 use Rattle.nir_ir.specs.Nodes.{Nodes, Nil, BlockThen, IfThen, LoopThen}
 use Rattle.nir_ir.specs.Shader.{Shader}
 use Rattle.nir_ir.specs.Shaped.{IsShaped}
-use Rattle.nir_validate.specs.Each.{Each, IsReached}
+use Rattle.nir_validate.specs.Each.{IsReached}
 use Rattle.nir_validate.specs.Edges.{Edge, Flow, backs, either, meet, out_of_loop}
 use Rattle.nir_validate.specs.Valid.{Valid}
 use Rattle.nir_validate.specs.Walk.{block_flow, entry, walk}
@@ -17,9 +17,9 @@ use Rattle.nir_mean.specs.Run.{Break, Continue, Cut, Exit, Fall, Part, Setting, 
 use Rattle.nir_mean.specs.Same.{BuffersFit, InputsFit}
 use Rattle.nir_mean.specs.State.{State}
 use Rattle.run_laws.specs.Agree.{basis_in}
-use Rattle.run_laws.specs.Known.{Basis, BlockGood, ConditionGood, IsEdgeOf, IsUnder, Known, under}
+use Rattle.run_laws.specs.Known.{Basis, IsEdgeOf, Known, under}
 use Rattle.run_laws.specs.Makings.{makings_of}
-use Rattle.run_laws.specs.Simulates.{IsClosedEdge}
+use Rattle.run_laws.specs.Simulates.{ListGood}
 
 -- ---- at the ways out
 
@@ -40,7 +40,7 @@ EndsKnown basis flow (Cut state) = Unit {0}
 abbrev pub StaysKnown : Type 1
 StaysKnown =
     (basis : Basis) (inputs : List (List ℕ)) (repeats : ℕ) → InputsFit basis.inputs inputs
-    → (nodes : Nodes) (edges back : List Edge) → Each (BlockGood basis) (ConditionGood basis) nodes edges back → AllByRecursion (IsClosedEdge basis) edges → IsUnder (meet edges) back
+    → (nodes : Nodes) (edges back : List Edge) → ListGood basis nodes edges back
     → IsReached edges → (from : Option BlockId) (state : State) → KnownBy basis from state (edges ++ back)
     → EndsKnown basis (walk nodes edges) (run_list (under basis inputs repeats) nodes from state)
 
@@ -67,15 +67,22 @@ abbrev pub Chosen : Bool → Type 0 → Type 0 → Type 0
 Chosen true first second = first
 Chosen false first second = second
 
+abbrev pub BlockFact : Type 1
+BlockFact = Block → List Edge → List Edge → Option BlockId → State → Type 0
+
+abbrev pub ConditionFact : Type 1
+ConditionFact = ValueId → List Edge → State → Type 0
+
 -- A fact of each block that a run enters, by the edges by which the walk enters it and by all its edges, and of each if that it comes to.
-abbrev pub Inside : Setting → (Block → List Edge → List Edge → Option BlockId → State → Type 0) → (ValueId → List Edge → State → Type 0) → Nodes → List Edge → List Edge → Option BlockId → State → Type 0
+abbrev pub Inside : Setting → BlockFact → ConditionFact → Nodes → List Edge → List Edge → Option BlockId → State → Type 0
 Inside m P Q Nil edges back from state = Unit {0}
 Inside m P Q (BlockThen b rest) edges back from state =
     P b edges (edges ++ back) from state × AfterFall (run_block m b from state) (Inside m P Q rest (block_flow b edges).falls [])
 Inside m P Q (IfThen id condition first second rest) edges back from state =
     Q condition edges state
     × Chosen (nat_eq (scalar state.values condition) 1) (Inside m P Q first edges [] from state) (Inside m P Q second edges [] from state)
-    × AfterFall (run_choice (nat_eq (scalar state.values condition) 1) (run_list m first) (run_list m second) from state) (Inside m P Q rest (either (walk first edges) (walk second edges)).falls [])
+    × AfterFall (run_choice (nat_eq (scalar state.values condition) 1) (run_list m first) (run_list m second) from state)
+    (Inside m P Q rest (either (walk first edges) (walk second edges)).falls [])
 Inside m P Q (LoopThen id body rest) edges back from state =
     InTurns m.repeats (run_list m body) (Inside m P Q body edges (backs (walk body edges))) from state
     × AfterFall (turns m.repeats (run_list m body) from state) (Inside m P Q rest (out_of_loop (walk body edges)).falls [])
@@ -91,7 +98,7 @@ ConditionKnown basis condition edges state = IsReached edges × Known basis.kind
 abbrev pub IsKnownInside : Type 1
 IsKnownInside =
     (basis : Basis) (inputs : List (List ℕ)) (repeats : ℕ) → InputsFit basis.inputs inputs
-    → (nodes : Nodes) (edges back : List Edge) → Each (BlockGood basis) (ConditionGood basis) nodes edges back → AllByRecursion (IsClosedEdge basis) edges → IsUnder (meet edges) back
+    → (nodes : Nodes) (edges back : List Edge) → ListGood basis nodes edges back
     → IsReached edges → (from : Option BlockId) (state : State) → KnownBy basis from state (edges ++ back)
     → Inside (under basis inputs repeats) (BlockKnown basis) (ConditionKnown basis) nodes edges back from state
 
@@ -101,11 +108,13 @@ IsKnownInside =
 abbrev pub basis_by : Shader → Basis
 basis_by s = basis_in s (kind_at s.body) (makings_of (kind_at s.body) s.body)
 
--- in each run of a valid shader, and where it ends, each value that is defined on every path has what its instruction makes of its sources, and the components that its kind says
+-- in each run of a valid shader, and where it ends, each value that is defined on every path has what its instruction makes of its sources,
+-- and the components that its kind says
 pub record IsKnownIn (s : Shader) (inputs buffers : List (List ℕ)) (repeats : ℕ) : Type 0 where
   pub inside : Inside (setting s inputs repeats) (BlockKnown (basis_by s)) (ConditionKnown (basis_by s)) s.body (entry ∷ []) [] None (start s buffers)
   pub ends : EndsKnown (basis_by s) (walk s.body (entry ∷ [])) (run_list (setting s inputs repeats) s.body None (start s buffers))
 
 abbrev pub ValidIsKnown : Type 0
 ValidIsKnown =
-    (s : Shader) (inputs buffers : List (List ℕ)) (repeats : ℕ) → IsShaped s → Valid s → InputsFit s.inputs inputs → BuffersFit s.buffers buffers → IsKnownIn s inputs buffers repeats
+    (s : Shader) (inputs buffers : List (List ℕ)) (repeats : ℕ) → IsShaped s → Valid s → InputsFit s.inputs inputs → BuffersFit s.buffers buffers
+    → IsKnownIn s inputs buffers repeats

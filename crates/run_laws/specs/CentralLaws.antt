@@ -23,7 +23,7 @@ use Rattle.run_laws.specs.FollowsLaws.{block_related, choice_related, edge_back,
 use Rattle.run_laws.specs.GoodLaws.{valid-is_good_by_instrs}
 use Rattle.run_laws.specs.Known.{Basis, IsEdgeOf, Known, ended, under}
 use Rattle.run_laws.specs.KnownLaws.{edge_all, known-block, known-less, meet_under}
-use Rattle.run_laws.specs.Simulates.{BlockAt, BlockPlace, ConditionPlace, same_names}
+use Rattle.run_laws.specs.Simulates.{BlockAt, BlockPlace, ConditionPlace, ListGood, same_names}
 use Rattle.run_laws.specs.SimulatesLaws.{closed-none, each_at}
 
 -- one state, of which what is known holds
@@ -204,17 +204,22 @@ module _ (basis : Basis) (inputs : List (List ℕ)) (repeats : ℕ) (given : Inp
       )
 
 pub stays-known : StaysKnown
-stays-known basis inputs repeats given nodes edges back each closed below reached from state by =
-    list_ends basis inputs repeats given nodes edges back (each_at basis nodes edges back each closed below) reached from state by
+stays-known basis inputs repeats given nodes edges back good reached from state by =
+    list_ends basis inputs repeats given nodes edges back (each_at basis nodes edges back good) reached from state by
 
 pub is-known_inside : IsKnownInside
-is-known_inside basis inputs repeats given nodes edges back each closed below reached from state by =
-    inside basis inputs repeats given nodes edges back (each_at basis nodes edges back each closed below) reached from state by
+is-known_inside basis inputs repeats given nodes edges back good reached from state by =
+    inside basis inputs repeats given nodes edges back (each_at basis nodes edges back good) reached from state by
 
 pub valid-is_known : ValidIsKnown
 valid-is_known s inputs buffers repeats shaped valid given bytes =
     let basis = basis_by s in
-    let good = valid-is_good_by_instrs s (kind_at s.body) (IsItemOf (items s.body)) shaped valid (λ id kind is. is) (items_of (items s.body)) in
+    let good : ListGood basis s.body (entry ∷ []) [] = record {
+      parts = valid-is_good_by_instrs s (kind_at s.body) (IsItemOf (items s.body)) shaped valid (λ id kind is. is) (items_of (items s.body));
+      closed = closed-none basis;
+      again = tt;
+      below = tt;
+    } in
     let started : KnownBy basis None (start s buffers) (entry ∷ []) = record {
       edge = entry;
       listed = inl refl;
@@ -226,6 +231,6 @@ valid-is_known s inputs buffers repeats shaped valid given bytes =
       };
     } in
     record {
-      inside = is-known_inside basis inputs repeats given s.body (entry ∷ []) [] good (closed-none basis) tt refl None (start s buffers) started;
-      ends = stays-known basis inputs repeats given s.body (entry ∷ []) [] good (closed-none basis) tt refl None (start s buffers) started;
+      inside = is-known_inside basis inputs repeats given s.body (entry ∷ []) [] good refl None (start s buffers) started;
+      ends = stays-known basis inputs repeats given s.body (entry ∷ []) [] good refl None (start s buffers) started;
     }

@@ -1,4 +1,5 @@
--- Two lists of nodes of which the second follows the first: from states that are related they end alike, and in states that are related on the values of the edge by which they ended.
+-- Two lists of nodes of which the second follows the first: from states that are related they end alike, and in states that are related on
+-- the values of the edge by which they ended.
 -- It is a simulation, as in proofs of compilers, along the edges of the walk.
 use Rattle.std.specs.Prelude.{◌≡◌, ◌⊎◌, List, [], ◌++◌, Option, Some, nat_eq}
 use Rattle.nir_ir.specs.declared.ids.BlockId.{BlockId}

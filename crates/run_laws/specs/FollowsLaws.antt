@@ -78,7 +78,7 @@ module _ (I : Between) (ρ : Naming) where
   fall_related flow next first second _ _ is goes = absurd is
 
   -- the end of a block
-  jump_related : (next : Option Jump) (id other : BlockId) (set : Set) (s t : State) → ρ (Some id) ≡ Some other → I set s t
+  pub jump_related : (next : Option Jump) (id other : BlockId) (set : Set) (s t : State) → ρ (Some id) ≡ Some other → I set s t
       → Related I ρ (by_jump next (record { from = Some id; set = set } ∷ [])) (jump_exit next (Some id) s) (jump_exit next (Some other) t)
   jump_related None id other set s t named holds = (named, record { edge = record { from = Some id; set = set }; listed = inl refl; came = refl; holds = holds })
   jump_related (Some jump.Break) id other set s t named holds = (named, record { edge = record { from = Some id; set = set }; listed = inl refl; came = refl; holds = holds })
@@ -104,7 +104,7 @@ module _ (I : Between) (ρ : Naming) where
       by false = two
 
   -- the turns of a loop
-  turn_related : (flow : Flow) (edges : List Edge) (x y : Exit) (again again' : Part) → Related I ρ flow x y
+  pub turn_related : (flow : Flow) (edges : List Edge) (x y : Exit) (again again' : Part) → Related I ρ flow x y
       → ((from : Option BlockId) (s t : State) → Through I from s t (edges ++ backs flow) → Related I ρ (out_of_loop flow) (again from s) (again' (ρ from) t))
       → Related I ρ (out_of_loop flow) (after_turn x again) (after_turn y again')
   turn_related flow edges (Fall from s) (Fall other t) again again' is goes =
@@ -133,7 +133,7 @@ module _ (I : Between) (ρ : Naming) where
 
     module _ (m : Setting) where
       -- what is behind a part follows, where the part ends alike
-      rest_follows : (rest more : Nodes) (edges : List Edge) → Follows m I ρ rest more edges []
+      pub rest_follows : (rest more : Nodes) (edges : List Edge) → Follows m I ρ rest more edges []
           → (from : Option BlockId) (s t : State) → Through I from s t edges → Related I ρ (walk rest edges) (run_list m rest from s) (run_list m more (ρ from) t)
       rest_follows rest more edges follows from s t through = follows (edge_reached through.edge edges through.listed) from s t (through_front I from s t edges [] through)
 

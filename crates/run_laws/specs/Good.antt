@@ -52,7 +52,8 @@ pub record PhiAt (edges all : List Edge) (phi : Phi) : Type 0 where
 -- each equation of a phi holds at its place
 abbrev pub TellsPhis : Basis → Nodes → Type 0
 TellsPhis basis body =
-    (phi : Phi) (making : Making) → phi_defining phi.value body ≡ Some phi → instr_defining phi.value body ≡ None → basis.makings phi.value ≡ Some making
+    (phi : Phi) (making : Making) → phi_defining phi.value body ≡ Some phi → instr_defining phi.value body ≡ None
+    → basis.makings phi.value ≡ Some making
     → (edges all : List Edge) → PhiAt edges all phi → PhiMade basis edges all phi making
 
 abbrev pub ValidIsGood : Type 1
@@ -65,4 +66,4 @@ ValidIsGood =
 abbrev pub ValidIsGoodByInstrs : Type 1
 ValidIsGoodByInstrs =
     (s : Shader) (kinds : Kinds) (other : Item → Type 0) → IsShaped s → Valid s → Extends kinds (kind_at s.body) → AllByRecursion other (items s.body)
-    → Each (BlockGood (basis_of s kinds (makings_of kinds s.body) other)) (ConditionGood (basis_of s kinds (makings_of kinds s.body) other)) s.body (entry ∷ []) []
+    → let basis = basis_of s kinds (makings_of kinds s.body) other in Each (BlockGood basis) (ConditionGood basis) s.body (entry ∷ []) []

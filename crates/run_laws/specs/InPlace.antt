@@ -1,4 +1,5 @@
--- Instructions in the place of the one that defines a value, which compute what it computes wherever what is known holds: a step by a rule, a fold and a lowering are such.
+-- Instructions in the place of the one that defines a value, which compute what it computes wherever what is known holds: a step by a rule,
+-- a fold and a lowering are such.
 use Rattle.std.specs.Prelude.{◌≡◌, ℕ, nat_lt, List}
 use Rattle.nir_ir.specs.declared.ids.ValueId.{ValueId}
 use Rattle.nir_ir.specs.declared.instr.Instr.{Instr}
@@ -25,10 +26,12 @@ values_below next n = nat_lt n next
 abbrev pub basis_for : Shader → Shader → Basis
 basis_for s t = basis_in s (kind_at t.body) (makings_of (kind_at t.body) s.body)
 
--- wherever the old instruction stands, in states of both runs that agree on the values of the first shader, the new ones make the value what the old one makes it
+-- wherever the old instruction stands, in states of both runs that agree on the values of the first shader, the new ones make the value what
+-- the old one makes it
 abbrev pub ComputesSame : Shader → Shader → ValueId → Instr → List Instr → Type 0
 ComputesSame s t value old news =
-    (inputs : List (List ℕ)) (repeats : ℕ) (set : Set) (f g : State) → InputsFit s.inputs inputs → InstrGood (basis_for s t) set old → Closed (makings_of (kind_at t.body) s.body) set
+    (inputs : List (List ℕ)) (repeats : ℕ) (set : Set) (f g : State) → InputsFit s.inputs inputs
+    → InstrGood (basis_for s t) set old → Closed (makings_of (kind_at t.body) s.body) set
     → Tied (basis_for s t) (Agree (values_below s.next_value)) set f g
     → (run_instrs (under (basis_for s t) inputs repeats) news g).values value.0 ≡ value_of (under (basis_for s t) inputs repeats) old f
 

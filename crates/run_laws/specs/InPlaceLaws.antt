@@ -162,8 +162,8 @@ module _ (s : Shader) (value : ValueId) (old : Instr) (news : List Instr) (after
     instr = instr_kept;
     phis = λ b edges all at edge listed f g tied.
         phis_unchanged (basis_for s (with_news s value news after)) (values_below s.next_value) b.phis edges all at.good.phis
-        (all_each (PhiGood (basis_for s (with_news s value news after)) edges all) (λ phi. AllByRecursion (IsKept (values_below s.next_value)) (uses (PhiItem phi)))
-        (λ phi good. uses_below s shaped (PhiItem phi) good.other) b.phis at.good.phis)
+        (all_each (PhiGood (basis_for s (with_news s value news after)) edges all) (λ phi. IsKept (values_below s.next_value) phi.value → AllByRecursion (IsKept (values_below s.next_value)) (uses (PhiItem phi)))
+        (λ phi good kept. uses_below s shaped (PhiItem phi) good.other) b.phis at.good.phis)
         edge listed (edge_all (λ e. IsBelow (meet edges) e.set) all at.under edge listed) f.values g.values tied.related;
     condition = λ id condition edges at f g tied.
         condition_unchanged (basis_for s (with_news s value news after)) (values_below s.next_value) condition edges at

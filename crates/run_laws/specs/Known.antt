@@ -1,4 +1,5 @@
--- What is known at a point of a shader wherever a run comes to it: of each value that is defined on every path there its equation, its kind, and that buffers hold bytes.
+-- What is known at a point of a shader wherever a run comes to it: of each value that is defined on every path there its equation and its
+-- kind, and that buffers hold bytes.
 -- Told apart from it is what needs no run: which values are defined there, of what they are made, and that what stands there fits.
 use Rattle.std.specs.Prelude.{◌≡◌, ◌⊎◌, ℕ, true, false, List, [], ◌∷◌, Option, Some}
 use Rattle.std.specs.List.{AllByRecursion}
@@ -91,7 +92,8 @@ InstrsGood basis set (instr ∷ instrs) = InstrGood basis set instr × InstrsGoo
 -- the equation of a phi, where it has one: it is made of values that are defined before its block, and is so along each edge
 pub record PhiMade (basis : Basis) (edges all : List Edge) (phi : Phi) (making : Making) : Type 0 where
   pub reads : AllByRecursion (IsIn (meet edges)) making.reads
-  pub equal : (edge : Edge) → IsEdgeOf edge all → (values : Values) → Equations basis.makings edge.set values → phi_value edge.from values phi ≡ making.made values
+  pub equal : (edge : Edge) → IsEdgeOf edge all → (values : Values) → Equations basis.makings edge.set values
+      → phi_value edge.from values phi ≡ making.made values
 
 -- a phi of a block that the walk enters by these edges, and that has all of those
 pub record PhiGood (basis : Basis) (edges all : List Edge) (phi : Phi) : Type 0 where

@@ -21,3 +21,5 @@ pub mod OnePhiLaws
 pub mod EquationsLaws
 pub mod Worked
 pub mod ThenLaws
+pub mod SweptLaws
+pub mod DoorLaws

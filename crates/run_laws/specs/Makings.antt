@@ -33,7 +33,11 @@ alu_local kinds op kind srcs f g all =
 
 -- what an opcode and a const make; what is loaded, given or undefined has no equation
 abbrev pub making_of : Kinds → Instr → Option Making
-making_of kinds (Alu id op kind srcs) = Some (record { reads = map (λ src. src.value) srcs; made = alu_mean kinds op kind srcs; local = alu_local kinds op kind srcs })
+making_of kinds (Alu id op kind srcs) = Some (record {
+  reads = map (λ src. src.value) srcs;
+  made = alu_mean kinds op kind srcs;
+  local = alu_local kinds op kind srcs;
+})
 making_of kinds (Const id kind comps) = Some (record { reads = []; made = λ values. comps; local = λ f g all. refl })
 making_of kinds (Undef id kind) = None
 making_of kinds (Input id kind slot) = None

@@ -1,8 +1,9 @@
 -- A phi whose sources are one value and itself has that value wherever it is defined.
 use Rattle.std.specs.Prelude.{◌≡◌, ◌⊎◌, refl, ℕ, ◌+◌, Bool, true, false, not, ◌&&◌, ◌||◌, nat_eq, is_some, cond, count_by, List, [], ◌∷◌, map, Option, Some, None}
 use Rattle.std.specs.List.{AllByRecursion, find, list_all, list_any}
-use Rattle.std.specs.Option.{option_map_or, option_to_list}
+use Rattle.std.specs.Option.{option_and_then, option_map_or, option_to_list}
 use Rattle.std.proofs.Common.{sym, ◌∙◌, ap, subst, inl, inr, zero-add, ⊎_elim}
+use Rattle.std.proofs.lemmas.Option.{none-some, same_Some}
 use Rattle.std.proofs.lemmas.Bool.{and_from, and_parts, cond-false, cond-true, true≢false}
 use Rattle.list_laws.specs.AllLaws.{passes_append}
 use Rattle.list_laws.specs.OptionLaws.{found_passes}
@@ -10,7 +11,10 @@ use Rattle.nir_ir.specs.declared.ids.BlockId.{BlockId}
 use Rattle.nir_ir.specs.declared.ids.ValueId.{ValueId}
 use Rattle.nir_ir.specs.declared.node.Phi.{Phi}
 use Rattle.nir_ir.specs.declared.node.PhiSource.{PhiSource}
-use Rattle.nir_ir.specs.Definitions.{is_from}
+use Rattle.nir_ir.specs.Definitions.{Kinds, instr_defining, is_from, phi_defining}
+use Rattle.nir_ir.specs.Nodes.{Nodes}
+use Rattle.nir_mean.specs.Points.{same_id}
+use Rattle.run_laws.specs.Good.{TellsInstrs, TellsPhis}
 use Rattle.nir_ir.specs.EditsShaped.{count_by-cons}
 use Rattle.nir_ir.specs.Found.{found_all}
 use Rattle.nir_validate.specs.Each.{IsDefinedAlong}
@@ -24,7 +28,7 @@ use Rattle.nir_mean.specs.Values.{Values}
 use Rattle.run_laws.specs.Good.{PhiAt}
 use Rattle.run_laws.specs.Known.{Basis, Equations, IsEdgeOf, PhiMade}
 use Rattle.run_laws.specs.KnownLaws.{edge_all}
-use Rattle.run_laws.specs.Makings.{Making}
+use Rattle.run_laws.specs.Makings.{Making, Makings, making_of, makings_of}
 
 -- the equation of a copy
 abbrev pub copy_of : ValueId → Making
@@ -116,3 +120,31 @@ one_phi basis value phi made one edges all at = record { reads = (met_by_each ed
       (λ same. taken ∙ ap (λ (v : ValueId). values v.0) same)
       (λ itself. taken ∙ ap (λ (v : ValueId). values v.0) itself ∙ equations phi.value (copy_of value) (subst (λ (v : ValueId). edge.set v.0 ≡ true) itself along.defined) made)
       (is_one edge along)
+
+-- ---- in a shader
+
+-- the equations, and that the one value is a copy of the other
+abbrev pub with_copy : ValueId → ValueId → Makings → Makings
+with_copy copy value makings id = cond (nat_eq id.0 copy.0) (Some (copy_of value)) (makings id)
+
+-- the equations of instructions stay, where no instruction defines the copy
+pub copy_tells_instrs : (kinds : Kinds) (body : Nodes) (copy value : ValueId) → instr_defining copy body ≡ None → TellsInstrs kinds (with_copy copy value (makings_of kinds body)) body
+copy_tells_instrs kinds body copy value none id instr found = by_test (nat_eq id.0 copy.0) refl where
+  by_test : (test : Bool) → nat_eq id.0 copy.0 ≡ test → with_copy copy value (makings_of kinds body) id ≡ making_of kinds instr
+  by_test true e = absurd (none-some instr (sym none ∙ ap (λ v. instr_defining v body) (sym (same_id id copy e)) ∙ found))
+  by_test false e = cond-false (nat_eq id.0 copy.0) (Some (copy_of value)) (makings_of kinds body id) e ∙ ap (option_and_then (making_of kinds)) found
+
+-- and that of the phi of one value holds at its place
+pub copy_tells_phis : (basis : Basis) (kinds : Kinds) (body : Nodes) (phi : Phi) (value : ValueId) → basis.makings ≡ with_copy phi.value value (makings_of kinds body)
+    → phi_defining phi.value body ≡ Some phi → IsOneValue value phi → TellsPhis basis body
+copy_tells_phis basis kinds body phi value are defined one other making found none of edges all at = by_test (nat_eq other.value.0 phi.value.0) refl where
+  told : with_copy phi.value value (makings_of kinds body) other.value ≡ Some making
+  told = ap (λ (makings : Makings). makings other.value) (sym are) ∙ of
+
+  by_test : (test : Bool) → nat_eq other.value.0 phi.value.0 ≡ test → PhiMade basis edges all other making
+  by_test true e =
+      let is_copy : copy_of value ≡ making = same_Some (copy_of value) making (sym (cond-true (nat_eq other.value.0 phi.value.0) (Some (copy_of value)) (makings_of kinds body other.value) e) ∙ told) in
+      let same : phi ≡ other = same_Some phi other (sym defined ∙ ap (λ v. phi_defining v body) (sym (same_id other.value phi.value e)) ∙ found) in
+      subst (PhiMade basis edges all other) is_copy (one_phi basis value other (of ∙ ap Some (sym is_copy)) (subst (IsOneValue value) same one) edges all at)
+  by_test false e =
+      absurd (none-some making (sym (ap (option_and_then (making_of kinds)) none) ∙ sym (cond-false (nat_eq other.value.0 phi.value.0) (Some (copy_of value)) (makings_of kinds body other.value) e) ∙ told))

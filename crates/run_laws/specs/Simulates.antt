@@ -27,9 +27,14 @@ use Rattle.run_laws.specs.Makings.{Closed}
 
 -- ---- a block and a condition at their places, apart from runs
 
+-- the edge's set is closed
+abbrev pub IsClosedEdge : Basis → Edge → Type 0
+IsClosedEdge basis edge = Closed basis.makings edge.set
+
 pub record BlockAt (basis : Basis) (b : Block) (edges all : List Edge) : Type 0 where
   pub good : PartsGood basis b edges all
   pub closed : Closed basis.makings (meet edges)
+  pub along : AllByRecursion (IsClosedEdge basis) all
   pub under : IsUnder (meet edges) all
 
 pub record ConditionAt (basis : Basis) (condition : ValueId) (edges : List Edge) : Type 0 where
@@ -42,9 +47,12 @@ BlockPlace basis b edges all = IsReached edges → BlockAt basis b edges all
 abbrev pub ConditionPlace : Basis → ValueId → List Edge → Type 0
 ConditionPlace basis condition edges = IsReached edges → ConditionAt basis condition edges
 
--- the edge's set is closed
-abbrev pub IsClosedEdge : Basis → Edge → Type 0
-IsClosedEdge basis edge = Closed basis.makings edge.set
+-- a list at its place: its parts are good there, the sets of its edges are closed, and the edges back have no smaller ones
+pub record ListGood (basis : Basis) (nodes : Nodes) (edges back : List Edge) : Type 0 where
+  pub parts : Each (BlockGood basis) (ConditionGood basis) nodes edges back
+  pub closed : AllByRecursion (IsClosedEdge basis) edges
+  pub again : AllByRecursion (IsClosedEdge basis) back
+  pub below : IsUnder (meet edges) back
 
 -- ---- two runs at a point
 
@@ -75,17 +83,19 @@ pub record Simulates (basis : Basis) (R : Relation) (inputs : List (List ℕ)) (
   pub instr : (instr : Instr) (set : Set) → InstrGood basis set instr → Closed basis.makings set → (s t : State) → Tied basis R set s t
       → Kept R (set_after instr set) (run_instr (under basis inputs repeats) instr s) (run_instrs (under basis inputs repeats) (c.instr instr) t)
   -- the phis of a block, by each of its edges
-  pub phis : (b : Block) (edges all : List Edge) → BlockAt basis b edges all → (edge : Edge) → IsEdgeOf edge all → (s t : State) → Tied basis R edge.set s t
+  pub phis : (b : Block) (edges all : List Edge) → BlockAt basis b edges all
+      → (edge : Edge) → IsEdgeOf edge all → (s t : State) → Tied basis R edge.set s t
       → R (set_after_phis b.phis (meet edges)) (run_phis edge.from b.phis s.values) (run_phis edge.from (c.phis b.phis) t.values)
   -- a condition chooses the same
-  pub condition : (id : IfId) (condition : ValueId) (edges : List Edge) → ConditionAt basis condition edges → (s t : State) → Tied basis R (meet edges) s t
+  pub condition : (id : IfId) (condition : ValueId) (edges : List Edge) → ConditionAt basis condition edges
+      → (s t : State) → Tied basis R (meet edges) s t
       → nat_eq (scalar s.values condition) 1 ≡ nat_eq (scalar t.values (c.condition id condition)) 1
 
 -- the changed list follows
 abbrev pub ChangedFollow : Type 1
 ChangedFollow =
     (basis : Basis) (R : Relation) (inputs : List (List ℕ)) (repeats : ℕ) (c : Change) → InputsFit basis.inputs inputs → Simulates basis R inputs repeats c
-    → (nodes : Nodes) (edges back : List Edge) → Each (BlockGood basis) (ConditionGood basis) nodes edges back → AllByRecursion (IsClosedEdge basis) edges → IsUnder (meet edges) back
+    → (nodes : Nodes) (edges back : List Edge) → ListGood basis nodes edges back
     → Follows (under basis inputs repeats) (Tied basis R) same_names nodes (changed c nodes) edges back
 
 -- ---- whole shaders

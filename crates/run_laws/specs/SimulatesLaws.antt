@@ -34,7 +34,7 @@ use Rattle.walk_laws.specs.GrownLaws.{IsBelow}
 use Rattle.run_laws.specs.Known.{Basis, BlockGood, ConditionGood, InstrsGood, IsEdgeOf, IsUnder, ended, entered, under}
 use Rattle.run_laws.specs.KnownLaws.{closed-block, closed-instr, closed-meet, closed-phis, edge_all, known-block, known-instr, known-less, known-phis, meet_under}
 use Rattle.run_laws.specs.Makings.{Closed}
-use Rattle.run_laws.specs.Simulates.{BlockAt, BlockPlace, ChangedDoSame, ChangedFollow, ConditionPlace, IsClosedEdge, Kept, RelatesNone, Relation, Simulates, Tied, same_names}
+use Rattle.run_laws.specs.Simulates.{BlockAt, BlockPlace, ChangedDoSame, ChangedFollow, ConditionPlace, IsClosedEdge, Kept, ListGood, RelatesNone, Relation, Simulates, Tied, same_names}
 
 -- ---- places along the walk
 
@@ -58,32 +58,38 @@ blocks_close : (basis : Basis) → BlocksKeep (IsClosedEdge basis) (BlockGood ba
 blocks_close basis b [] all good closed = tt
 blocks_close basis b (edge ∷ edges) all good closed = (closed-block basis b (edge ∷ edges) all (good refl) (closed-meet basis.makings (edge ∷ edges) closed), tt)
 
-pub each_at : (basis : Basis) (nodes : Nodes) (edges back : List Edge) → Each (BlockGood basis) (ConditionGood basis) nodes edges back
-    → AllByRecursion (IsClosedEdge basis) edges → IsUnder (meet edges) back → Each (BlockPlace basis) (ConditionPlace basis) nodes edges back
-each_at basis Nil edges back each closed below = each
-each_at basis (BlockThen b rest) edges back each closed below = (
+places : (basis : Basis) (nodes : Nodes) (edges back : List Edge) → Each (BlockGood basis) (ConditionGood basis) nodes edges back → AllByRecursion (IsClosedEdge basis) edges
+    → AllByRecursion (IsClosedEdge basis) back → IsUnder (meet edges) back → Each (BlockPlace basis) (ConditionPlace basis) nodes edges back
+places basis Nil edges back each closed again below = each
+places basis (BlockThen b rest) edges back each closed again below = (
   (λ reached. record {
     good = each.0 reached;
     closed = closed-meet basis.makings edges closed;
+    along = all_append (IsClosedEdge basis) edges back closed again;
     under = all_append (λ edge. IsBelow (meet edges) edge.set) edges back (meet_under edges) below;
   }),
-  each_at basis rest (block_flow b edges).falls [] each.1 (falls_all (IsClosedEdge basis) b.jump (out_edges b edges) (blocks_close basis b edges (edges ++ back) each.0 closed)) tt,
+  places basis rest (block_flow b edges).falls [] each.1 (falls_all (IsClosedEdge basis) b.jump (out_edges b edges) (blocks_close basis b edges (edges ++ back) each.0 closed)) tt tt,
 )
-each_at basis (IfThen id condition first second rest) edges back each closed below =
+places basis (IfThen id condition first second rest) edges back each closed again below =
     let one = each_along (IsClosedEdge basis) (BlockGood basis) (ConditionGood basis) (blocks_close basis) first edges [] each.2 closed in
     let two = each_along (IsClosedEdge basis) (BlockGood basis) (ConditionGood basis) (blocks_close basis) second edges [] each.3 closed in (
       each.0,
       (λ reached. record { good = each.1 reached; closed = closed-meet basis.makings edges closed }),
-      each_at basis first edges [] each.2 closed tt,
-      each_at basis second edges [] each.3 closed tt,
-      each_at basis rest (either (walk first edges) (walk second edges)).falls [] each.4 (all_append (IsClosedEdge basis) (walk first edges).falls (walk second edges).falls one.falls two.falls) tt,
+      places basis first edges [] each.2 closed tt tt,
+      places basis second edges [] each.3 closed tt tt,
+      places basis rest (either (walk first edges) (walk second edges)).falls [] each.4
+          (all_append (IsClosedEdge basis) (walk first edges).falls (walk second edges).falls one.falls two.falls) tt tt,
     )
-each_at basis (LoopThen id body rest) edges back each closed below =
-    let inside = each_along (IsClosedEdge basis) (BlockGood basis) (ConditionGood basis) (blocks_close basis) body edges (backs (walk body edges)) each.1 closed in (
+places basis (LoopThen id body rest) edges back each closed again below =
+    let flow = walk body edges in
+    let inside = each_along (IsClosedEdge basis) (BlockGood basis) (ConditionGood basis) (blocks_close basis) body edges (backs flow) each.1 closed in (
       each.0,
-      each_at basis body edges (backs (walk body edges)) each.1 closed (back_under body edges),
-      each_at basis rest (out_of_loop (walk body edges)).falls [] each.2 inside.breaks tt,
+      places basis body edges (backs flow) each.1 closed (all_append (IsClosedEdge basis) flow.falls flow.continues inside.falls inside.continues) (back_under body edges),
+      places basis rest (out_of_loop flow).falls [] each.2 inside.breaks tt tt,
     )
+
+pub each_at : (basis : Basis) (nodes : Nodes) (edges back : List Edge) → ListGood basis nodes edges back → Each (BlockPlace basis) (ConditionPlace basis) nodes edges back
+each_at basis nodes edges back good = places basis nodes edges back good.parts good.closed good.again good.below
 
 -- ---- the simulation
 
@@ -143,13 +149,13 @@ module _ (basis : Basis) (R : Relation) (inputs : List (List ℕ)) (repeats : �
   alike_changed (LoopThen id body rest) edges back each =
       inr (each.0, alike_changed body edges (backs (walk body edges)) each.1, alike_changed rest (out_of_loop (walk body edges)).falls [] each.2)
 
-  pub changed_follows : (nodes : Nodes) (edges back : List Edge) → Each (BlockGood basis) (ConditionGood basis) nodes edges back → AllByRecursion (IsClosedEdge basis) edges → IsUnder (meet edges) back
+  pub changed_follows : (nodes : Nodes) (edges back : List Edge) → ListGood basis nodes edges back
       → Follows (under basis inputs repeats) (Tied basis R) same_names nodes (changed c nodes) edges back
-  changed_follows nodes edges back each closed below =
-      follows (Tied basis R) same_names (tied basis R simulates.less) (under basis inputs repeats) nodes (changed c nodes) edges back (alike_changed nodes edges back (each_at basis nodes edges back each closed below))
+  changed_follows nodes edges back good =
+      follows (Tied basis R) same_names (tied basis R simulates.less) (under basis inputs repeats) nodes (changed c nodes) edges back (alike_changed nodes edges back (each_at basis nodes edges back good))
 
 pub changed-follow : ChangedFollow
-changed-follow basis R inputs repeats c given simulates nodes edges back each closed below = changed_follows basis R inputs repeats c given simulates nodes edges back each closed below
+changed-follow basis R inputs repeats c given simulates nodes edges back good = changed_follows basis R inputs repeats c given simulates nodes edges back good
 
 -- ---- whole shaders
 
@@ -202,4 +208,4 @@ pub changed-do_same : ChangedDoSame
 changed-do_same basis R c s t inputs buffers repeats changes given hold none simulates =
     follow-do_same basis R same_names s t inputs buffers repeats changes.old_kinds changes.new_kinds changes.outputs hold none (tied basis R simulates.less) refl
     (subst (λ body. Follows (under basis inputs repeats) (Tied basis R) same_names s.body body (entry ∷ []) []) (sym changes.body)
-    (changed_follows basis R inputs repeats c given simulates s.body (entry ∷ []) [] changes.good (closed-none basis) tt))
+    (changed_follows basis R inputs repeats c given simulates s.body (entry ∷ []) [] (record { parts = changes.good; closed = closed-none basis; again = tt; below = tt })))

@@ -92,8 +92,9 @@ module _ (basis : Basis) (kept : Set) where
       (all_both (IsDefinedAlong all) (λ (s : PhiSource). IsKept kept s.value) phi.sources along used) found in
       agree source.value.0 (edge_all (λ e. is_from e.from source ≡ true → e.set source.value.0 ≡ true) all both.0 edge is (found_passes (is_from edge.from) phi.sources source found)) both.1
 
-  -- phis
-  pub phis_unchanged : (phis : List Phi) (edges all : List Edge) → AllByRecursion (PhiGood basis edges all) phis → AllByRecursion (λ phi. AllByRecursion (IsKept kept) (uses (PhiItem phi))) phis
+  -- phis, where what the kept ones use is kept
+  pub phis_unchanged : (phis : List Phi) (edges all : List Edge) → AllByRecursion (PhiGood basis edges all) phis
+      → AllByRecursion (λ phi. IsKept kept phi.value → AllByRecursion (IsKept kept) (uses (PhiItem phi))) phis
       → (edge : Edge) → IsEdgeOf edge all → IsBelow (meet edges) edge.set → (f g : Values) → Agree kept edge.set f g
       → Agree kept (set_after_phis phis (meet edges)) (run_phis edge.from phis f) (run_phis edge.from phis g)
   phis_unchanged phis edges all good used edge is below f g agree n inside keeps = by (find (λ phi. nat_eq phi.value.0 n) phis) refl where
@@ -101,10 +102,11 @@ module _ (basis : Basis) (kept : Set) where
     by None none =
         run_one edge.from phis f n None none ∙ agree n (below n (none_found phis (meet edges) n none inside)) keeps ∙ sym (run_one edge.from phis g n None none)
     by (Some phi) found =
-        let own = found_all (λ p. PhiGood basis edges all p × AllByRecursion (IsKept kept) (uses (PhiItem p))) (λ p. nat_eq p.value.0 n) phis phi
-        (all_both (PhiGood basis edges all) (λ p. AllByRecursion (IsKept kept) (uses (PhiItem p))) phis good used) found in
+        let uses_kept = λ (p : Phi). IsKept kept p.value → AllByRecursion (IsKept kept) (uses (PhiItem p)) in
+        let own = found_all (λ p. PhiGood basis edges all p × uses_kept p) (λ p. nat_eq p.value.0 n) phis phi (all_both (PhiGood basis edges all) uses_kept phis good used) found in
+        let here : IsKept kept phi.value = ap kept (eqb-true phi.value.0 n (found_passes (λ p. nat_eq p.value.0 n) phis phi found)) ∙ keeps in
         run_one edge.from phis f n (Some phi) found
-        ∙ taken_same phi edge all f g agree is own.0.walked.sources (all_of_map (λ (source : PhiSource). source.value) (IsKept kept) phi.sources own.1) (find (is_from edge.from) phi.sources) refl
+        ∙ taken_same phi edge all f g agree is own.0.walked.sources (all_of_map (λ (source : PhiSource). source.value) (IsKept kept) phi.sources (own.1 here)) (find (is_from edge.from) phi.sources) refl
         ∙ sym (run_one edge.from phis g n (Some phi) found)
 
   -- a condition
