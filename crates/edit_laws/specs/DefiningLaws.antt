@@ -114,7 +114,7 @@ found_here (LoopHead id) list distinct = tt
 numbers_back : (first : Item) (list : List Item) → IsDistinct nat_eq (flat_map numbers_of (first ∷ list)) → IsDistinct nat_eq (flat_map numbers_of list)
 numbers_back first list distinct = distinct-back (numbers_of first) (flat_map numbers_of list) distinct
 
-all_found : (list : List Item) → IsDistinct nat_eq (flat_map numbers_of list) → AllByRecursion (IsFound list) list
+pub all_found : (list : List Item) → IsDistinct nat_eq (flat_map numbers_of list) → AllByRecursion (IsFound list) list
 all_found [] distinct = tt
 all_found (first ∷ list) distinct = (
   found_here first list distinct,

@@ -1,13 +1,14 @@
 -- Instructions in the place of the one that defines a value: which instruction defines each value then, and the kinds of values.
 use Rattle.std.specs.Prelude.{◌≡◌, refl, ℕ, ◌<◌, ◌≤◌, Bool, true, false, ◌||◌, nat_eq, cond, List, [], ◌∷◌, ◌++◌, length, map, Option, Some, None}
-use Rattle.std.specs.List.{AllByRecursion, find, flat_map, list_any, range_with_len}
+use Rattle.std.specs.List.{AllByRecursion, find, flat_map, list_any, range_with_len, IsDistinct}
 use Rattle.std.specs.Option.{option_and_then, option_map, option_or, option_to_list}
-use Rattle.std.proofs.Common.{sym, ◌∙◌, ap, arith, subst, ⊎_elim}
+use Rattle.std.proofs.Common.{sym, ◌∙◌, ap, arith, subst, ⊎_elim, ◌⊎◌, inl, inr}
 use Rattle.std.proofs.lemmas.Bool.{cases_eq, cond-false, cond-true, ne_eqb}
 use Rattle.list_laws.specs.AllLaws.{all_back, all_each, all_front}
 use Rattle.std.proofs.lemmas.Option.{none-some}
 use Rattle.nir_ir.specs.declared.ids.ValueId.{ValueId}
 use Rattle.nir_ir.specs.declared.instr.Instr.{Instr}
+use Rattle.nir_ir.specs.declared.instr.Instr.TheVariants.{Alu, Const, Undef, Input, Output, LoadBuf, StoreBuf}
 use Rattle.nir_ir.specs.declared.kind.Kind.{Kind}
 use Rattle.nir_ir.specs.declared.node.Phi.{Phi}
 use Rattle.nir_ir.specs.Definitions.{instr_defining, instr_of, instrs, is_phi_of, is_target, kind_at, kind_of_target, phi_defining, phi_of, phis}
@@ -17,9 +18,10 @@ use Rattle.nir_ir.specs.Items.{Item, BlockHead, PhiItem, InstrItem, JumpItem, If
 use Rattle.nir_ir.specs.Nodes.{Nodes}
 use Rattle.nir_ir.specs.Shaped.{IsOneOf, IsShaped}
 use Rattle.nir_ir.specs.Shader.{Shader}
+use Rattle.edit_laws.specs.DefiningLaws.{IsFound, all_found}
 use Rattle.edit_laws.specs.ItemsLaws.{given-apart, numbers_of, target_numbers}
 use Rattle.edit_laws.specs.NumbersLaws.{member_has, one_of-back, one_of-front, one_of-here, range-within}
-use Rattle.edit_laws.specs.PlacedLaws.{numbers_from, placed_within}
+use Rattle.edit_laws.specs.PlacedLaws.{numbers_from, placed_within, placed_gives}
 
 -- ---- what is found in a list in which instructions stand in the place of one
 
@@ -184,3 +186,74 @@ pub kind_fresh : (s : Shader) (value id : ValueId) (old new : Instr) (news : Lis
 kind_fresh s value id old new news kind shaped found among high is =
     ap (λ instr. kind_by instr (phi_defining id (replaced value news s.body))) (defining_fresh s value id old new news shaped found among high)
     ∙ ap (λ k. option_or k (option_map (λ p. p.kind) (phi_defining id (replaced value news s.body)))) is
+
+-- ---- what the new instructions define has their kinds
+
+-- what defines a value has a kind
+kind_there : (instr : Instr) (id : ValueId) → target instr ≡ Some id → kind_of_target instr ≡ None → ⊥
+kind_there (Alu v op kind srcs) id aims none = none-some kind (sym none)
+kind_there (Const v kind comps) id aims none = none-some kind (sym none)
+kind_there (Undef v kind) id aims none = none-some kind (sym none)
+kind_there (Input v kind slot) id aims none = none-some kind (sym none)
+kind_there (Output effect slot src) id aims none = none-some id aims
+kind_there (LoadBuf v kind buffer offset) id aims none = none-some kind (sym none)
+kind_there (StoreBuf effect buffer offset src) id aims none = none-some id aims
+
+pub defining_here : (s : Shader) (value : ValueId) (old new : Instr) (news : List Instr) → instr_defining value s.body ≡ Some old → find (is_target value) news ≡ Some new → instr_defining value (replaced value news s.body) ≡ Some new
+defining_here s value old new news found among =
+    ap (find (is_target value)) (instrs-replaced value news s.body)
+    ∙ find_new value value news old new among (instrs s.body) found (itself value (instrs s.body))
+
+instrs_only : (news : List Instr) → flat_map instr_of (map InstrItem news) ≡ news
+instrs_only [] = refl
+instrs_only (new ∷ news) = ap (λ t. new ∷ t) (instrs_only news)
+
+numbers_only : (news : List Instr) → flat_map numbers_of (map InstrItem news) ≡ flat_map target_numbers news
+numbers_only [] = refl
+numbers_only (new ∷ news) = ap (λ t. target_numbers new ++ t) (numbers_only news)
+
+-- each of the new instructions is the one that is found among them for its value
+pub news_found : (news : List Instr) → IsDistinct nat_eq (flat_map target_numbers news) → AllByRecursion (λ new. (id : ValueId) → target new ≡ Some id → find (is_target id) news ≡ Some new) news
+news_found news distinct = of_items news (all_found (map InstrItem news) (subst (IsDistinct nat_eq) (sym (numbers_only news)) distinct)) where
+  of_items : (list : List Instr) → AllByRecursion (IsFound (map InstrItem news)) (map InstrItem list) → AllByRecursion (λ (new : Instr). (id : ValueId) → target new ≡ Some id → find (is_target id) news ≡ Some new) list
+  of_items [] all = tt
+  of_items (new ∷ list) all = ((λ id aims. ap (find (is_target id)) (sym (instrs_only news)) ∙ (all.0 id aims).found), of_items list all.1)
+
+target_number : (new : Instr) (id : ValueId) → target new ≡ Some id → IsOneOf (target_numbers new) id.0
+target_number new id aims = subst (λ found. IsOneOf (map (λ (i : ValueId). i.0) (option_to_list found)) id.0) (sym aims) (one_of-here id.0 [])
+
+-- the numbers of those of a list are among all
+abbrev IsAmong : List Instr → Instr → Type 0
+IsAmong news new = (n : ℕ) → IsOneOf (target_numbers new) n → IsOneOf (flat_map target_numbers news) n
+
+among_all : (news : List Instr) → AllByRecursion (IsAmong news) news
+among_all [] = tt
+among_all (new ∷ news) = (
+  (λ n is. one_of-front (target_numbers new) (flat_map target_numbers news) n is),
+  all_each (IsAmong news) (IsAmong (new ∷ news)) (λ other is n own. one_of-back (target_numbers new) (flat_map target_numbers news) n (is n own)) news (among_all news),
+)
+
+both_hold : (P Q : Instr → Type 0) (list : List Instr) → AllByRecursion P list → AllByRecursion Q list → AllByRecursion (λ instr. P instr × Q instr) list
+both_hold P Q [] p q = tt
+both_hold P Q (instr ∷ list) p q = ((p.0, q.0), both_hold P Q list p.1 q.1)
+
+pub news_told : (s : Shader) (value : ValueId) (old : Instr) (news : List Instr) (after : ℕ) → IsShaped s → instr_defining value s.body ≡ Some old → ArePlaced s.next_value after value news → value.0 < s.next_value
+    → AllByRecursion (λ new. (id : ValueId) → target new ≡ Some id → kind_at (replaced value news s.body) id ≡ kind_of_target new) news
+news_told s value old news after shaped found placed low =
+    let Finds : Instr → Type 0 = λ new. (id : ValueId) → target new ≡ Some id → find (is_target id) news ≡ Some new in
+    all_each (λ new. Finds new × IsAmong news new) (λ new. (id : ValueId) → target new ≡ Some id → kind_at (replaced value news s.body) id ≡ kind_of_target new)
+    (λ new both id aims. told new id aims (both.0 id aims) (placed_within s.next_value after value news placed id.0 (both.1 id.0 (target_number new id aims)))) news
+    (both_hold Finds (IsAmong news) news (news_found news (placed_gives s.next_value after value news placed low).distinct) (among_all news))
+  where
+    kind_some : (new : Instr) (id : ValueId) (body : Nodes) → instr_defining id body ≡ Some new → (found : Option Kind) → kind_of_target new ≡ found → target new ≡ Some id → kind_at body id ≡ kind_of_target new
+    kind_some new id body defining (Some kind) is aims =
+        ap (λ instr. kind_by instr (phi_defining id body)) defining ∙ ap (λ k. option_or k (option_map (λ (p : Phi). p.kind) (phi_defining id body))) is ∙ sym is
+    kind_some new id body defining None is aims = absurd (kind_there new id aims is)
+
+    told : (new : Instr) (id : ValueId) → target new ≡ Some id → find (is_target id) news ≡ Some new → (id.0 ≡ value.0) ⊎ ((s.next_value ≤ id.0) × (id.0 < after)) → kind_at (replaced value news s.body) id ≡ kind_of_target new
+    told new id aims among (inl same) =
+        let own : id ≡ value = same_id id value same in
+        kind_some new id (replaced value news s.body)
+        (subst (λ (v : ValueId). instr_defining v (replaced value news s.body) ≡ Some new) (sym own) (defining_here s value old new news found (subst (λ (v : ValueId). find (is_target v) news ≡ Some new) own among)))
+        (kind_of_target new) refl aims
+    told new id aims among (inr within) = kind_some new id (replaced value news s.body) (defining_fresh s value id old new news shaped found among within.0) (kind_of_target new) refl aims

@@ -16,7 +16,7 @@ use Rattle.nir_ir.specs.declared.instr.Src.{Src}
 use Rattle.nir_ir.specs.declared.kind.Kind.{Kind}
 use Rattle.nir_ir.specs.declared.node.Phi.{Phi}
 use Rattle.nir_ir.specs.declared.node.PhiSource.{PhiSource}
-use Rattle.nir_ir.specs.Definitions.{kind_at, is_from}
+use Rattle.nir_ir.specs.Definitions.{is_from}
 use Rattle.nir_ir.specs.Items.{reads, target}
 use Rattle.nir_ir.specs.Shaped.{IsOneOf}
 use Rattle.nir_mean.specs.Renamed.{IsNamed, KeepsApart, Renaming, SameState, SameValues, run_instr-same}
