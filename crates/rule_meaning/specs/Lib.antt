@@ -21,3 +21,4 @@ pub mod TypingLaws
 pub mod RowLaws
 pub mod BuiltLaws
 pub mod BuiltValuesLaws
+pub mod RootBuiltLaws

@@ -40,7 +40,7 @@ use Rattle.nir_mean.specs.Values.{Values, alu_mean, read, source_sizes}
 use Rattle.rule_meaning.specs.Env.{at_place, env}
 use Rattle.rule_meaning.specs.Fit.{component_count}
 use Rattle.rule_meaning.specs.Matched.{IsMatched, match_count, match_value, match_views, match_width, match_words, root_count}
-use Rattle.rule_meaning.specs.Views.{IsView, alu_mean_eight}
+use Rattle.rule_meaning.specs.Views.{IsView, alu_mean_eight, length-alu_mean}
 
 -- a move is an opcode without sizes of its own that leaves a word as it is
 mov_unsized : is_unsized Mov ≡ true
@@ -50,16 +50,6 @@ mov_unsized = refl
 mov_mean : (x : ℕ) → x < 2 ^ 8 → op_mean Mov 8 8 (x ∷ []) ≡ x
 unfolding op_mean meaning residue
 mov_mean x small = mod-eq_of_lt small
-
--- an opcode that works place by place makes as many components as its kind says
-pub length-alu_mean : (body : Nodes) (op : Op) (kind : Kind) (srcs : List Src) (values : Values) → shape_of op ≡ EachPlace → length (alu_mean (kind_at body) op kind srcs values) ≡ kind.count
-unfolding alu_mean view_mean
-length-alu_mean body op kind srcs values shape =
-    let w = width_bits (unsized_width op kind.width (source_sizes (kind_at body) srcs)) in
-    let d = width_bits kind.width in
-    let args = map (read values) srcs in
-    ap (λ s. length (shape_mean s op w d kind.count args)) shape
-    ∙ length-map-range_with_len (λ at. op_mean op w d (column at args)) 0 kind.count
 
 -- the part of a typing for the replacement, where each size is 8
 pub replace_eight : (rule : Rule) → replace_part rule (all_eight rule) ≡ replicate (size_of rule.replace) W8
@@ -121,7 +111,7 @@ module _ (s : Shader) (rule : Rule) (variant : ℕ) (value : ValueId) (kind : Ki
     pub put_variable : alu_mean (kind_at s.body) Mov kind (view_source (bound_to binds var) ∷ []) values ≡ values value.0
     put_variable =
         let srcs = view_source (bound_to binds var) ∷ [] in
-        let long = length-alu_mean s.body Mov kind srcs values shape-Mov in
+        let long = length-alu_mean (kind_at s.body) Mov kind srcs values shape-Mov in
         ext_get_or 0 (alu_mean (kind_at s.body) Mov kind srcs values) (values value.0) (long ∙ sym has_kind.count)
         (λ place less.
         let within : place < kind.count = subst (λ n. place < n) long less in

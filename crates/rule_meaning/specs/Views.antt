@@ -3,7 +3,7 @@ use Rattle.std.specs.Prelude.{◌≡◌, refl, ◌<◌, ◌^◌, ◌==◌, ℕ, 
 use Rattle.std.proofs.Common.{sym, ◌∙◌, ap, ap₂, subst, arith, ⊎_elim}
 use Rattle.std.proofs.lemmas.Bool.{and_parts, false≢true, or_cases, eqb-true}
 use Rattle.std.proofs.lemmas.List.{get_or-map, length-map}
-use Rattle.std.proofs.lemmas.List.FromFn.{get_or-map-range_with_len}
+use Rattle.std.proofs.lemmas.List.FromFn.{get_or-map-range_with_len, length-map-range_with_len}
 use Rattle.std.proofs.lemmas.Option.{none-some, same_Some}
 use Rattle.std.specs.List.{AllByRecursion, list_all}
 use Rattle.std.specs.Option.{option_and_then, option_map, option_map_or, option_or}
@@ -152,6 +152,16 @@ unfolding alu_mean
 alu_mean_at kinds op kind srcs values place shape within =
     each_mean op (width_bits (unsized_width op kind.width (source_sizes kinds srcs))) (width_bits kind.width) kind.count place (map (read values) srcs) shape within
 
+-- an opcode that works place by place makes as many components as its kind says
+pub length-alu_mean : (kinds : Kinds) (op : Op) (kind : Kind) (srcs : List Src) (values : Values) → shape_of op ≡ EachPlace → length (alu_mean kinds op kind srcs values) ≡ kind.count
+unfolding alu_mean view_mean
+length-alu_mean kinds op kind srcs values shape =
+    let w = width_bits (unsized_width op kind.width (source_sizes kinds srcs)) in
+    let d = width_bits kind.width in
+    let args = map (read values) srcs in
+    ap (λ s. length (shape_mean s op w d kind.count args)) shape
+    ∙ length-map-range_with_len (λ at. op_mean op w d (column at args)) 0 kind.count
+
 -- at 8 bits an opcode without sizes of its own works at 8 bits
 pub alu_mean_eight : (body : Nodes) (op : Op) (kind : Kind) (srcs : List Src) (values : Values) (place : ℕ) → shape_of op ≡ EachPlace → is_unsized op ≡ true → kind.width ≡ W8 → place < kind.count
     → slice_index (alu_mean (kind_at body) op kind srcs values) place ≡ op_mean op 8 8 (column place (map (read values) srcs))
@@ -252,7 +262,7 @@ module _ (s : Shader) (set : Set) (count : ℕ) (op : Op) (view : Bind) (alu : I
   -- the opcode makes the component in a place of those that stand there in the views of its sources
   pub op_at : (values : Values) → Fits op alu.kind.width (map (λ src. width_at s.body src.value) alu.srcs) → (flag : Bool) (place : ℕ) → (flag ≡ true → is_commutative op ≡ true) → place < count
       → op_mean op (width_bits (unsized_width op (width_at s.body view.value) (map (λ child. width_at s.body child.value) (children s.body flag view)))) (width_bits (width_at s.body view.value))
-          (map (at_place values place) (children s.body flag view)) ≡ slice_index (alu_mean (kind_at s.body) op alu.kind alu.srcs values) (slice_index view.comps place)
+      (map (at_place values place) (children s.body flag view)) ≡ slice_index (alu_mean (kind_at s.body) op alu.kind alu.srcs values) (slice_index view.comps place)
   op_at values widths flag place commutes within =
       let here : place < length view.comps = subst (λ n. place < n) (sym places) within in
       let c = slice_index view.comps place in
@@ -302,7 +312,7 @@ module _ (s : Shader) (shaped : IsShaped s) (set : Set) (closed : Closed s.body 
   -- the opcode makes the component in a place of those that stand there in the views of its sources
   pub op_value : (values : Values) → IsKnown s.body set values → (flag : Bool) (place : ℕ) → (flag ≡ true → is_commutative op ≡ true) → place < count
       → op_mean op (width_bits (unsized_width op (width_at s.body view.value) (map (λ child. width_at s.body child.value) (children s.body flag view)))) (width_bits (width_at s.body view.value))
-          (map (at_place values place) (children s.body flag view)) ≡ at_place values place view
+      (map (at_place values place) (children s.body flag view)) ≡ at_place values place view
   op_value values known flag place commutes within =
       op_at s set count op view alu stands (fit.counts view.value op alu.kind alu.srcs is.inside alu.found) (fit.inside view.value op alu.kind alu.srcs is.inside alu.found) in_set is.places is.comps
       values (fit.widths view.value op alu.kind alu.srcs is.inside alu.found) flag place commutes within
