@@ -22,3 +22,5 @@ pub mod RowLaws
 pub mod BuiltLaws
 pub mod BuiltValuesLaws
 pub mod RootBuiltLaws
+pub mod SizedLaws
+pub mod PutLaws

@@ -51,7 +51,7 @@ pub record IsMatch (s : Shader) (rule : Rule) (variant : ℕ) (value : ValueId) 
   pub fit : IsFit s.body set
   pub inside : set value.0 ≡ true
 
-some_map : {A B : Type 0} (f : A → B) (o : Option A) (b : B) → option_map f o ≡ Some b → (a : A) × (o ≡ Some a) × (f a ≡ b)
+pub some_map : {A B : Type 0} (f : A → B) (o : Option A) (b : B) → option_map f o ≡ Some b → (a : A) × (o ≡ Some a) × (f a ≡ b)
 some_map f None b e = absurd (none-some b e)
 some_map f (Some a) b e = (a, refl, same_Some (f a) b e)
 
