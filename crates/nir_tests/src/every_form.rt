@@ -26,7 +26,7 @@ block b0 { %later = const w64x4 (-9223372036854775808, 18446744073709551615, -1,
 
 /// The same in its canonical form: the phi's sources stand in the order of their blocks, and a
 /// number below 0 is the component that it gives.
-pub(crate) static EVERY_FORM_PRINTED: &str = "shader
+pub(crate) static EVERY_FORM_PRINTED: &str = r"shader
 inputs [w8x1, w32x4]
 outputs [w1x1]
 buffers 16

@@ -1,7 +1,7 @@
 //! Texts that are read and printed again.
 
 use crate::every_form::{EVERY_FORM, EVERY_FORM_PRINTED};
-use crate::reading::read;
+use crate::reading::{EMPTY_TEXT, read};
 use nir_host::Bytes;
 use nir_print::print_shader;
 use std::alloc::Global;
@@ -15,7 +15,7 @@ fn read_and_printed(alloc: Global, text: &str) -> Result<Bytes, Fail> {
 }
 
 /// A loop with a way out, and a sum over a buffer in it.
-static SUM_OVER_A_BUFFER: &str = "shader
+static SUM_OVER_A_BUFFER: &str = r"shader
 inputs [w32x1, w32x1]
 outputs []
 buffers 2
@@ -74,11 +74,8 @@ buffers 2
 }
 ";
 
-/// The smallest shader, of 59 bytes.
-static EMPTY_TEXT: &str = "shader\ninputs []\noutputs []\nbuffers 0\n{\n  block b0 {\n  }\n}\n";
-
 /// Each sort of node, of instruction and of jump.
-static EACH_SORT: &str = "shader
+static EACH_SORT: &str = r"shader
 inputs [w32x2]
 outputs [w32x1]
 buffers 1

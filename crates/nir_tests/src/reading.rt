@@ -69,15 +69,44 @@ fn other_fault(
     })
 }
 
+/// The smallest shader, of 59 bytes.
+pub(crate) static EMPTY_TEXT: &str = r"shader
+inputs []
+outputs []
+buffers 0
+{
+  block b0 {
+  }
+}
+";
+
+/// A kind of six components. The `~` of these texts stands where the fault is.
+const SIX_COMPONENTS: &str = r"shader
+inputs [~w8x6]
+outputs []
+buffers 0
+{
+  block b0 {
+  }
+}
+";
+
+/// A text without its last brace.
+const CUT_OFF: &str = r"shader
+inputs []
+outputs []
+buffers 0
+{
+  block b0 {
+  }
+~";
+
 /// Whole texts, each with the words of its fault.
 static TEXTS: [(&str, &str); 23] = [
     ("~", "unexpected"),
     ("# no shader~", "unexpected"),
     ("~inputs [] outputs [] buffers 0 {}", "unexpected"),
-    (
-        "shader\ninputs [~w8x6]\noutputs []\nbuffers 0\n{\n  block b0 {\n  }\n}\n",
-        "unexpected",
-    ),
+    (SIX_COMPONENTS, "unexpected"),
     (
         "shader inputs [w8x1,~] outputs [] buffers 0 {}",
         "unexpected",
@@ -103,10 +132,7 @@ static TEXTS: [(&str, &str); 23] = [
         "unexpected",
     ),
     ("shader inputs [] outputs [] buffers 16 {~", "unexpected"),
-    (
-        "shader\ninputs []\noutputs []\nbuffers 0\n{\n  block b0 {\n  }\n~",
-        "unexpected",
-    ),
+    (CUT_OFF, "unexpected"),
     (
         "shader inputs [] outputs [] buffers 0 { ~output @0, %1 }",
         "unexpected",
@@ -287,7 +313,7 @@ fn limits_are_kept(rt: HostRuntime) -> Result<(), Fail> {
 
 #[test]
 fn a_text_that_is_cut_off_is_no_shader(rt: HostRuntime) -> Result<(), Fail> {
-    let text = b"shader\ninputs []\noutputs []\nbuffers 0\n{\n  block b0 {\n  }\n}\n";
+    let text = EMPTY_TEXT.as_bytes();
     assert_eq!(rt; text.len(), 59);
     for length in 0..58 {
         assert!(rt; read(rt.alloc(), &text[..length]).is_err(), "{length}");

@@ -14,7 +14,7 @@ use std::test::Fail;
 /// A text of one rule, sizes of its search side, and those of the replacement; none where there are no such.
 type Row = (&'static str, &'static [Width], &'static [Width]);
 
-static ROWS: [Row; 19] = [
+static ROWS: [Row; 20] = [
     // All nodes have one size, of more than one bit.
     (SUM, &[W16; 5], &[W16; 5]),
     (SUM, &[W64; 5], &[W64; 5]),
@@ -52,9 +52,10 @@ static ROWS: [Row; 19] = [
         &[W1, W32, W32],
     ),
     // A number has to fit.
-    ("[((ineg, a), (isub, 300, a))]", &[W8, W8], &[]),
-    ("[((ineg, a), (isub, 300, a))]", &[W16, W16], &[W16; 3]),
-    ("[((ineg, 'a@8'), (ineg, a))]", &[W16, W16], &[]),
+    (FROM_300, &[W8, W8], &[]),
+    (FROM_300, &[W16, W16], &[W16; 3]),
+    (NEGATED_BYTE, &[W8, W8], &[W8; 2]),
+    (NEGATED_BYTE, &[W16, W16], &[]),
 ];
 
 const SUM: &str = "[((isub, (iadd, a, -1), b), (iadd, (isub, a, b), -1))]";
@@ -62,6 +63,10 @@ const SUM: &str = "[((isub, (iadd, a, -1), b), (iadd, (isub, a, b), -1))]";
 const NARROWED: &str = "[((u2u8, (u2u32, a)), (u2u8, a))]";
 
 const WIDENED: &str = "[((iand, (u2u32, a), (u2u32, a)), (u2u32, a))]";
+
+const FROM_300: &str = "[((ineg, a), (isub, 300, a))]";
+
+const NEGATED_BYTE: &str = "[((ineg, 'a@8'), (ineg, a))]";
 
 #[test]
 fn replacements_have_their_sizes(rt: HostRuntime) -> Result<(), Fail> {

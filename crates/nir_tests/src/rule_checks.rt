@@ -11,6 +11,10 @@ static CHECKED: &[(&str, &str)] = &[
     ("[]", "0 accepted"),
     ("[((iadd, 'a@8', 0), a), by * cases]", "1 accepted"),
     (
+        "[((iand, 'a@8', b), (iand, b, a)), by * cases]",
+        "1 accepted",
+    ),
+    (
         "[((iadd, 'a@8', 0), a), by * cases, ((isub, 'a@8', a), 0), by * cases, ((iand, 'b@8', (inot, b)), 0), by * cases]",
         "3 accepted",
     ),

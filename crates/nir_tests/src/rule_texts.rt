@@ -6,6 +6,15 @@ use std::alloc::Global;
 use std::fmt::Write;
 use std::test::Fail;
 
+/// Rules in a free layout, with a comment at the end of a line; two lines begin with a tab.
+const BOTH_ORDERS: &str = "[ # both orders
+\t((iadd,a,b,),(iadd,b,a,),) , # a comment, with , and ]
+\t((ineg, (ineg, x)), x), by * cases, by
+*
+cases,
+]
+";
+
 /// Texts of rules, and what is read.
 static READ: &[(&str, &str)] = &[
     ("[]", "0 weights"),
@@ -15,7 +24,7 @@ static READ: &[(&str, &str)] = &[
         "0 of 1: Iadd ( v0@W8 0 ) -> v0 always; by all cases; 0 weights",
     ),
     (
-        "[ # both orders\n\t((iadd,a,b,),(iadd,b,a,),) , # a comment, with , and ]\n\t((ineg, (ineg, x)), x), by * cases, by\n*\ncases,\n]\n",
+        BOTH_ORDERS,
         "0 of 2: Iadd ( v0 v1 ) -> Iadd ( v1 v0 ) always; 1 of 1: Ineg ( Ineg ( v0 ) ) -> v0 always; by all cases; by all cases; 0 weights",
     ),
     (

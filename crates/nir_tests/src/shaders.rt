@@ -6,7 +6,7 @@ use std::test::Fail;
 
 /// A block, an if, a loop and a block. Each block has a phi with an even number that is its own source, and an undef
 /// with the number behind it; the condition is value 0.
-static TREE: &str = "shader
+static TREE: &str = r"shader
 inputs []
 outputs []
 buffers 0

@@ -1,42 +1,246 @@
 //! The command `eval`, through the program, over sources and sinks in memory.
 
+use super::texts::LEAK;
 use super::{Case, REFUSED, Text, all_end, all_end_unheard, words_of};
 use crate::program::rules_at;
 
 /// Loads and stores that stand across the end of a buffer of six bytes.
-const ACROSS: &[u8] =
-    b"shader\ninputs []\noutputs [w32x1, w16x3, w16x1]\nbuffers 1\n{\n  block b0 {\n    %0 = const w32x1 (4)\n    %1 = const w32x1 (2)\n    %2 = load w32x1 @0, %0\n    %3 = load w16x3 @0, %1\n    %4 = const w16x2 (257, 258)\n    store @0, %0, %4\n    %5 = load w16x1 @0, %0\n    output @0, %2\n    output @1, %3\n    output @2, %5\n  }\n}\n";
+const ACROSS: &[u8] = br"shader
+inputs []
+outputs [w32x1, w16x3, w16x1]
+buffers 1
+{
+  block b0 {
+    %0 = const w32x1 (4)
+    %1 = const w32x1 (2)
+    %2 = load w32x1 @0, %0
+    %3 = load w16x3 @0, %1
+    %4 = const w16x2 (257, 258)
+    store @0, %0, %4
+    %5 = load w16x1 @0, %0
+    output @0, %2
+    output @1, %3
+    output @2, %5
+  }
+}
+";
+
+/// What is told of them on the bytes 1 to 6.
+const ACROSS_RUN: &[u8] = br"end done
+store @0 4 (257, 258)
+output @0 (0)
+output @1 (1027, 1541, 0)
+output @2 (257)
+";
 
 /// A loop without an end.
-const ENDLESS: &[u8] =
-    b"shader\ninputs [w32x1]\noutputs [w32x1]\nbuffers 0\n{\n  block b0 {\n    %0 = input w32x1 @0\n    output @0, %0\n  }\n  loop {\n    block b1 {\n    }\n  }\n  block b2 {\n  }\n}\n";
+const ENDLESS: &[u8] = br"shader
+inputs [w32x1]
+outputs [w32x1]
+buffers 0
+{
+  block b0 {
+    %0 = input w32x1 @0
+    output @0, %0
+  }
+  loop {
+    block b1 {
+    }
+  }
+  block b2 {
+  }
+}
+";
 
-const ONCE: &[u8] =
-    b"shader\ninputs [w32x1]\noutputs [w32x1]\nbuffers 0\n{\n  block b0 {\n    %0 = input w32x1 @0\n  }\n  loop {\n    block b1 {\n      %1 = ineg w32x1 %0\n      break\n    }\n  }\n  block b2 {\n    output @0, %1\n  }\n}\n";
+const ONCE: &[u8] = br"shader
+inputs [w32x1]
+outputs [w32x1]
+buffers 0
+{
+  block b0 {
+    %0 = input w32x1 @0
+  }
+  loop {
+    block b1 {
+      %1 = ineg w32x1 %0
+      break
+    }
+  }
+  block b2 {
+    output @0, %1
+  }
+}
+";
 
 /// The sum of the numbers below the input.
-const SUM: &[u8] =
-    b"shader\ninputs [w32x1]\noutputs [w32x1]\nbuffers 0\n{\n  block b0 {\n    %0 = input w32x1 @0\n    %1 = const w32x1 (0)\n    %2 = const w32x1 (1)\n  }\n  loop {\n    block b1 {\n      %3 = phi w32x1 [b0: %1, b4: %7]\n      %4 = phi w32x1 [b0: %1, b4: %8]\n      %5 = uge w1x1 %4, %0\n    }\n    if %5 {\n      block b2 {\n        break\n      }\n    } else {\n      block b3 {\n      }\n    }\n    block b4 {\n      %6 = iadd w32x1 %4, %1\n      %7 = iadd w32x1 %3, %6\n      %8 = iadd w32x1 %4, %2\n    }\n  }\n  block b5 {\n    output @0, %3\n  }\n}\n";
-
-/// A value of one list of an if, used behind it.
-const LEAK: &[u8] =
-    b"shader\ninputs [w32x1]\noutputs [w32x1]\nbuffers 0\n{\n  block b0 {\n    %0 = input w32x1 @0\n    %1 = const w1x1 (1)\n  }\n  if %1 {\n    block b1 {\n      %2 = ineg w32x1 %0\n    }\n  } else {\n    block b2 {\n    }\n  }\n  block b3 {\n    output @0, %2\n  }\n}\n";
+const SUM: &[u8] = br"shader
+inputs [w32x1]
+outputs [w32x1]
+buffers 0
+{
+  block b0 {
+    %0 = input w32x1 @0
+    %1 = const w32x1 (0)
+    %2 = const w32x1 (1)
+  }
+  loop {
+    block b1 {
+      %3 = phi w32x1 [b0: %1, b4: %7]
+      %4 = phi w32x1 [b0: %1, b4: %8]
+      %5 = uge w1x1 %4, %0
+    }
+    if %5 {
+      block b2 {
+        break
+      }
+    } else {
+      block b3 {
+      }
+    }
+    block b4 {
+      %6 = iadd w32x1 %4, %1
+      %7 = iadd w32x1 %3, %6
+      %8 = iadd w32x1 %4, %2
+    }
+  }
+  block b5 {
+    output @0, %3
+  }
+}
+";
 
 /// Two phis that change places at each turn.
-const PLACES: &[u8] =
-    b"shader\ninputs []\noutputs [w8x1, w8x1]\nbuffers 0\n{\n  block b0 {\n    %0 = const w8x1 (1)\n    %1 = const w8x1 (2)\n    %2 = const w1x1 (0)\n  }\n  loop {\n    block b1 {\n      %3 = phi w8x1 [b0: %0, b2: %4]\n      %4 = phi w8x1 [b0: %1, b2: %3]\n      output @0, %3\n      output @1, %4\n    }\n    if %2 {\n      block b3 {\n        break\n      }\n    } else {\n      block b4 {\n      }\n    }\n    block b2 {\n    }\n  }\n  block b5 {\n  }\n}\n";
+const PLACES: &[u8] = br"shader
+inputs []
+outputs [w8x1, w8x1]
+buffers 0
+{
+  block b0 {
+    %0 = const w8x1 (1)
+    %1 = const w8x1 (2)
+    %2 = const w1x1 (0)
+  }
+  loop {
+    block b1 {
+      %3 = phi w8x1 [b0: %0, b2: %4]
+      %4 = phi w8x1 [b0: %1, b2: %3]
+      output @0, %3
+      output @1, %4
+    }
+    if %2 {
+      block b3 {
+        break
+      }
+    } else {
+      block b4 {
+      }
+    }
+    block b2 {
+    }
+  }
+  block b5 {
+  }
+}
+";
 
 /// A loop in a loop; the outer one is broken out of and continued, the inner one broken out of.
 const NESTED: &[u8] =
-    b"shader inputs [] outputs [w32x1] buffers 0 { block b0 { %zero = const w32x1 (0) %one = const w32x1 (1) %two = const w32x1 (2) %three = const w32x1 (3) }\nloop {\n block o { %i = phi w32x1 [b0: %zero, skip: %k, last: %k] %t = phi w32x1 [b0: %zero, skip: %t, last: %u] %k = iadd w32x1 %i, %one %done = uge w1x1 %i, %three }\n if %done { block q { break } } else { block r { } }\n block s { %is1 = ieq w1x1 %i, %one }\n if %is1 { block skip { continue } } else { block nn { } }\n block before { }\n loop {\n   block h { %j = phi w32x1 [before: %zero, hend: %j2] %u = phi w32x1 [before: %t, hend: %u2] %jd = uge w1x1 %j, %two }\n   if %jd { block hq { break } } else { block hr { } }\n   block hend { %j2 = iadd w32x1 %j, %one %u2 = iadd w32x1 %u, %one }\n }\n block last { }\n}\nblock out { output @0, %t } }";
+    br"shader inputs [] outputs [w32x1] buffers 0 { block b0 { %zero = const w32x1 (0) %one = const w32x1 (1) %two = const w32x1 (2) %three = const w32x1 (3) }
+loop {
+ block o { %i = phi w32x1 [b0: %zero, skip: %k, last: %k] %t = phi w32x1 [b0: %zero, skip: %t, last: %u] %k = iadd w32x1 %i, %one %done = uge w1x1 %i, %three }
+ if %done { block q { break } } else { block r { } }
+ block s { %is1 = ieq w1x1 %i, %one }
+ if %is1 { block skip { continue } } else { block nn { } }
+ block before { }
+ loop {
+   block h { %j = phi w32x1 [before: %zero, hend: %j2] %u = phi w32x1 [before: %t, hend: %u2] %jd = uge w1x1 %j, %two }
+   if %jd { block hq { break } } else { block hr { } }
+   block hend { %j2 = iadd w32x1 %j, %one %u2 = iadd w32x1 %u, %one }
+ }
+ block last { }
+}
+block out { output @0, %t } }";
 
 /// Each width in a buffer, a store across its end, and one far behind it.
 const WIDTHS: &[u8] =
-    b"shader inputs [] outputs [w8x4, w16x2, w32x1, w64x1, w8x1] buffers 1 { block b0 {\n%0 = const w32x1 (0) %2 = const w32x1 (2) %4 = const w32x1 (4) %v = const w64x1 (72623859790382856) store @0, %0, %v\n%a = load w8x4 @0, %0 %b = load w16x2 @0, %2 %c = load w32x1 @0, %4 %d = load w64x1 @0, %0\n%8 = const w32x1 (8) %x = const w32x1 (305419896) store @0, %8, %x %e = load w8x1 @0, %8\n%9 = const w32x1 (4294967295) store @0, %9, %x\noutput @0, %a output @1, %b output @2, %c output @3, %d output @4, %e } }";
+    br"shader inputs [] outputs [w8x4, w16x2, w32x1, w64x1, w8x1] buffers 1 { block b0 {
+%0 = const w32x1 (0) %2 = const w32x1 (2) %4 = const w32x1 (4) %v = const w64x1 (72623859790382856) store @0, %0, %v
+%a = load w8x4 @0, %0 %b = load w16x2 @0, %2 %c = load w32x1 @0, %4 %d = load w64x1 @0, %0
+%8 = const w32x1 (8) %x = const w32x1 (305419896) store @0, %8, %x %e = load w8x1 @0, %8
+%9 = const w32x1 (4294967295) store @0, %9, %x
+output @0, %a output @1, %b output @2, %c output @3, %d output @4, %e } }";
+
+/// What is told of them on ten bytes, of which the last is 9.
+const WIDTHS_RUN: &[u8] = br"end done
+store @0 0 (72623859790382856)
+store @0 8 (305419896)
+store @0 4294967295 (305419896)
+output @0 (8, 7, 6, 5)
+output @1 (1286, 772)
+output @2 (16909060)
+output @3 (72623859790382856)
+output @4 (0)
+";
 
 /// An if, a loop, a load and a store, on two buffers.
-const WHOLE: &[u8] =
-    b"shader\ninputs [w32x1, w32x1]\noutputs []\nbuffers 2\n{\n  block b0 {\n    %0 = input w32x1 @0\n    %1 = input w32x1 @1\n    %2 = const w32x1 (0)\n    %3 = const w32x1 (1)\n    %4 = const w32x1 (4)\n    %5 = const w32x1 (16)\n    %6 = uge w1x1 %0, %1\n    %7 = inot w1x1 %6\n  }\n  if %7 {\n    block b1 {\n      %8 = imul w32x1 %0, %5\n      %9 = iadd w32x1 %8, %2\n    }\n    loop {\n      block b2 {\n        %10 = phi w32x1 [b1: %2, b5: %20]\n        %11 = phi w32x1 [b1: %2, b5: %19]\n        %12 = uge w1x1 %10, %4\n      }\n      if %12 {\n        block b3 {\n          break\n        }\n      } else {\n        block b4 {\n        }\n      }\n      block b5 {\n        %13 = imul w32x1 %10, %4\n        %14 = iadd w32x1 %9, %13\n        %15 = load w32x1 @0, %14\n        %16 = ineg w32x1 %15\n        %17 = ineg w32x1 %16\n        %18 = iand w32x1 %17, %17\n        %19 = iadd w32x1 %11, %18\n        %20 = iadd w32x1 %10, %3\n      }\n    }\n    block b6 {\n      %21 = udiv w32x1 %11, %4\n      %22 = imul w32x1 %0, %4\n      store @1, %22, %21\n    }\n  } else {\n    block b7 {\n    }\n  }\n  block b8 {\n  }\n}\n";
+const WHOLE: &[u8] = br"shader
+inputs [w32x1, w32x1]
+outputs []
+buffers 2
+{
+  block b0 {
+    %0 = input w32x1 @0
+    %1 = input w32x1 @1
+    %2 = const w32x1 (0)
+    %3 = const w32x1 (1)
+    %4 = const w32x1 (4)
+    %5 = const w32x1 (16)
+    %6 = uge w1x1 %0, %1
+    %7 = inot w1x1 %6
+  }
+  if %7 {
+    block b1 {
+      %8 = imul w32x1 %0, %5
+      %9 = iadd w32x1 %8, %2
+    }
+    loop {
+      block b2 {
+        %10 = phi w32x1 [b1: %2, b5: %20]
+        %11 = phi w32x1 [b1: %2, b5: %19]
+        %12 = uge w1x1 %10, %4
+      }
+      if %12 {
+        block b3 {
+          break
+        }
+      } else {
+        block b4 {
+        }
+      }
+      block b5 {
+        %13 = imul w32x1 %10, %4
+        %14 = iadd w32x1 %9, %13
+        %15 = load w32x1 @0, %14
+        %16 = ineg w32x1 %15
+        %17 = ineg w32x1 %16
+        %18 = iand w32x1 %17, %17
+        %19 = iadd w32x1 %11, %18
+        %20 = iadd w32x1 %10, %3
+      }
+    }
+    block b6 {
+      %21 = udiv w32x1 %11, %4
+      %22 = imul w32x1 %0, %4
+      store @1, %22, %21
+    }
+  } else {
+    block b7 {
+    }
+  }
+  block b8 {
+  }
+}
+";
 
 /// An evaluation without inputs and buffers. The source of rules fails at once, so it would be told if they were read.
 const DONE: Case<'static> = Case {
@@ -50,7 +254,7 @@ const DONE: Case<'static> = Case {
 static ONE_TURN: [Case; 4] = [
     Case {
         words: &[b"eval", b"--turns=0", b"--buffer=010203040506"],
-        out: b"end done\nstore @0 4 (257, 258)\noutput @0 (0)\noutput @1 (1027, 1541, 0)\noutput @2 (257)\n",
+        out: ACROSS_RUN,
         ..DONE
     },
     Case {
@@ -132,7 +336,7 @@ static NESTS: [Case; 4] = [
     Case {
         words: &[b"eval", b"--turns=0", b"--buffer=00000000000000000009"],
         shader: Text::Whole(WIDTHS),
-        out: b"end done\nstore @0 0 (72623859790382856)\nstore @0 8 (305419896)\nstore @0 4294967295 (305419896)\noutput @0 (8, 7, 6, 5)\noutput @1 (1286, 772)\noutput @2 (16909060)\noutput @3 (72623859790382856)\noutput @4 (0)\n",
+        out: WIDTHS_RUN,
         ..DONE
     },
 ];

@@ -136,6 +136,90 @@ fn other_texts_are_not_built(rt: HostRuntime) {
     all_end(&rt, rt.alloc(), &OTHER_TEXTS);
 }
 
+/// A text without its last brace.
+const CUT_OFF: &[u8] = br"shader
+inputs []
+outputs []
+buffers 0
+{
+  block b0 {
+  }
+";
+
+/// A kind of six components.
+const SIX_COMPONENTS: &[u8] = br"shader
+inputs [w8x6]
+outputs []
+buffers 0
+{
+  block b0 {
+  }
+}
+";
+
+/// A byte that no token begins with.
+const STRAY_BYTE: &[u8] = br"shader
+inputs []
+outputs []
+buffers 0
+{
+  block b0 ! {
+  }
+}
+";
+
+/// A number without a digit.
+const NO_DIGIT: &[u8] = br"shader
+inputs []
+outputs []
+buffers 0x
+{
+  block b0 {
+  }
+}
+";
+
+/// One buffer too many.
+const MANY_BUFFERS: &[u8] = br"shader
+inputs []
+outputs []
+buffers 17
+{
+  block b0 {
+  }
+}
+";
+
+/// A name of no opcode.
+const MISSPELT_OPCODE: &[u8] = br"shader
+inputs [w8x1]
+outputs [w8x1]
+buffers 0
+{
+  block b0 {
+    %0 = input w8x1 @0
+    %1 = cnst w8x1 (0)
+    %2 = iadd w8x1 %0, %1
+    output @0, %2
+  }
+}
+";
+
+/// An output of a value that nothing defines.
+const UNDEFINED: &[u8] = br"shader
+inputs [w8x1]
+outputs [w8x1]
+buffers 0
+{
+  block b0 {
+    %0 = input w8x1 @0
+    %1 = const w8x1 (0)
+    %2 = iadd w8x1 %0, %1
+    output @0, %9
+  }
+}
+";
+
 /// Texts that are not in the grammar.
 const MISSPELT: Case<'static> = Case {
     number: 7,
@@ -144,39 +228,31 @@ const MISSPELT: Case<'static> = Case {
 
 static FAULTS: [Case; 8] = [
     Case {
-        shader: Text::Whole(b"shader\ninputs []\noutputs []\nbuffers 0\n{\n  block b0 {\n  }\n"),
+        shader: Text::Whole(CUT_OFF),
         place: 57,
         notes: b"shader: byte 57: unexpected\n",
         ..MISSPELT
     },
     Case {
-        shader: Text::Whole(
-            b"shader\ninputs [w8x6]\noutputs []\nbuffers 0\n{\n  block b0 {\n  }\n}\n",
-        ),
+        shader: Text::Whole(SIX_COMPONENTS),
         place: 15,
         notes: b"shader: byte 15: unexpected\n",
         ..MISSPELT
     },
     Case {
-        shader: Text::Whole(
-            b"shader\ninputs []\noutputs []\nbuffers 0\n{\n  block b0 ! {\n  }\n}\n",
-        ),
+        shader: Text::Whole(STRAY_BYTE),
         place: 51,
         notes: b"shader: byte 51: bad byte\n",
         ..MISSPELT
     },
     Case {
-        shader: Text::Whole(
-            b"shader\ninputs []\noutputs []\nbuffers 0x\n{\n  block b0 {\n  }\n}\n",
-        ),
+        shader: Text::Whole(NO_DIGIT),
         place: 36,
         notes: b"shader: byte 36: bad number\n",
         ..MISSPELT
     },
     Case {
-        shader: Text::Whole(
-            b"shader\ninputs []\noutputs []\nbuffers 17\n{\n  block b0 {\n  }\n}\n",
-        ),
+        shader: Text::Whole(MANY_BUFFERS),
         place: 36,
         notes: b"shader: byte 36: too many\n",
         ..MISSPELT
@@ -188,17 +264,13 @@ static FAULTS: [Case; 8] = [
         ..MISSPELT
     },
     Case {
-        shader: Text::Whole(
-            b"shader\ninputs [w8x1]\noutputs [w8x1]\nbuffers 0\n{\n  block b0 {\n    %0 = input w8x1 @0\n    %1 = cnst w8x1 (0)\n    %2 = iadd w8x1 %0, %1\n    output @0, %2\n  }\n}\n",
-        ),
+        shader: Text::Whole(MISSPELT_OPCODE),
         place: 93,
         notes: b"shader: byte 93: unknown opcode\n",
         ..MISSPELT
     },
     Case {
-        shader: Text::Whole(
-            b"shader\ninputs [w8x1]\noutputs [w8x1]\nbuffers 0\n{\n  block b0 {\n    %0 = input w8x1 @0\n    %1 = const w8x1 (0)\n    %2 = iadd w8x1 %0, %1\n    output @0, %9\n  }\n}\n",
-        ),
+        shader: Text::Whole(UNDEFINED),
         place: 149,
         notes: b"shader: byte 149: unknown name\n",
         ..MISSPELT
@@ -210,9 +282,16 @@ fn the_first_fault_of_a_shader_text_is_told(rt: HostRuntime) {
     all_end(&rt, rt.alloc(), &FAULTS);
 }
 
+/// The declarations, and the beginning of the body.
+const DECLARATIONS: &[u8] = br"shader
+inputs []
+outputs []
+buffers 0
+{";
+
 static TOO_DEEP: [Case; 1] = [Case {
     shader: Text::Repeated {
-        front: b"shader\ninputs []\noutputs []\nbuffers 0\n{",
+        front: DECLARATIONS,
         piece: b"loop {",
         times: 64,
         end: b"",

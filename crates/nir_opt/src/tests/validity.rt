@@ -1,6 +1,6 @@
 //! Which rule of valid shaders a text breaks first, and at which item.
 
-use super::texts::RULE;
+use super::texts::{LEAK, RULE};
 use super::{Case, REFUSED, Text, all_end, ends, uncounted};
 use nir_host::OutOfMemory;
 use std::alloc::Global;
@@ -18,24 +18,69 @@ const FRONT: &[u8] =
 const BARE: &[u8] = b"shader inputs [] outputs [] buffers 0 { ";
 
 /// A value that is used before the line that defines it.
-const LATE: &[u8] =
-    b"shader\ninputs [w8x1]\noutputs [w8x1]\nbuffers 0\n{\n  block b0 {\n    output @0, %0\n    %0 = input w8x1 @0\n  }\n}\n";
+const LATE: &[u8] = br"shader
+inputs [w8x1]
+outputs [w8x1]
+buffers 0
+{
+  block b0 {
+    output @0, %0
+    %0 = input w8x1 @0
+  }
+}
+";
 
 /// A jump outside of loops.
-const JUMP: &[u8] =
-    b"shader\ninputs []\noutputs []\nbuffers 0\n{\n  block b0 {\n    break\n  }\n}\n";
+const JUMP: &[u8] = br"shader
+inputs []
+outputs []
+buffers 0
+{
+  block b0 {
+    break
+  }
+}
+";
 
 /// An input of a slot that is not declared, at 32 bits.
-const NO_SLOT: &[u8] =
-    b"shader\ninputs []\noutputs []\nbuffers 0\n{\n  block b0 {\n    %0 = input w32x1 @0\n  }\n}\n";
-
-/// A value of one list that is used behind the if.
-const ACROSS: &[u8] =
-    b"shader\ninputs [w32x1]\noutputs [w32x1]\nbuffers 0\n{\n  block b0 {\n    %0 = input w32x1 @0\n    %1 = const w1x1 (1)\n  }\n  if %1 {\n    block b1 {\n      %2 = ineg w32x1 %0\n    }\n  } else {\n    block b2 {\n    }\n  }\n  block b3 {\n    output @0, %2\n  }\n}\n";
+const NO_SLOT: &[u8] = br"shader
+inputs []
+outputs []
+buffers 0
+{
+  block b0 {
+    %0 = input w32x1 @0
+  }
+}
+";
 
 /// Two ifs with no block between them.
-const TWO_IFS: &[u8] =
-    b"shader\ninputs [w1x1]\noutputs []\nbuffers 0\n{\n  block b0 {\n    %0 = input w1x1 @0\n  }\n  if %0 {\n    block b1 {\n    }\n  } else {\n    block b2 {\n    }\n  }\n  if %0 {\n    block b3 {\n    }\n  } else {\n    block b4 {\n    }\n  }\n  block b5 {\n  }\n}\n";
+const TWO_IFS: &[u8] = br"shader
+inputs [w1x1]
+outputs []
+buffers 0
+{
+  block b0 {
+    %0 = input w1x1 @0
+  }
+  if %0 {
+    block b1 {
+    }
+  } else {
+    block b2 {
+    }
+  }
+  if %0 {
+    block b3 {
+    }
+  } else {
+    block b4 {
+    }
+  }
+  block b5 {
+  }
+}
+";
 
 /// A text that is not valid.
 const INVALID: Case<'static> = Case {
@@ -523,7 +568,7 @@ pub(super) static BROKEN: [Case; 6] = [
         ..INVALID
     },
     Case {
-        shader: Text::Whole(ACROSS),
+        shader: Text::Whole(LEAK),
         notes: b"shader: V7 at item 8\n",
         ..INVALID
     },
