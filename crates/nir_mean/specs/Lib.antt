@@ -8,7 +8,6 @@ pub mod Worked
 pub mod ViewLaws
 pub mod Reads
 pub mod Renamed
-pub mod OneBlock
 pub mod Sound
 pub mod Table
 pub mod Seen
@@ -17,8 +16,7 @@ pub mod Frames
 pub mod Declares
 pub mod Bytes
 pub mod Points
-pub mod Block
-pub mod Replaced
+pub mod MadeKinds
 pub mod Faults
 pub mod ShaderText
 pub mod ShaderLines

@@ -1,11 +1,9 @@
 -- The definitions computed on shaders that were worked out by hand.
-use Rattle.std.specs.Prelude.{◌≡◌, refl, ℕ, zero, suc, true, false, ◌||◌, nat_eq, slice_get, slice_index, List, [], ◌∷◌, Some, None}
-use Rattle.std.proofs.Common.{sym, ◌∙◌, ap, lit<}
-use Rattle.std.proofs.lemmas.Option.{none-some, same_Some}
+use Rattle.std.specs.Prelude.{◌≡◌, refl, ℕ, List, [], ◌∷◌, Some, None}
 use Rattle.nir_ops.specs.declared.op.Op.TheVariants.{Iadd, Ineg}
 use Rattle.nir_ops.specs.declared.width.Width.TheVariants.{W1, W8, W16, W32}
-use Rattle.nir_ops.specs.Opcodes.{op_allows, op_info, row_of}
-use Rattle.op_eval.specs.Calls.{result_width, source_widths, unsized_width}
+use Rattle.nir_ops.specs.Opcodes.{op_info, row_of}
+use Rattle.op_eval.specs.Calls.{unsized_width}
 use Rattle.op_eval.specs.Meaning.{meaning, op_mean}
 use Rattle.op_eval.specs.Views.{shape_of, view_mean}
 use Rattle.op_eval.specs.Word.{residue}
@@ -21,8 +19,6 @@ use Rattle.nir_ir.specs.Nodes.{Nil, BlockThen, IfThen, LoopThen}
 use Rattle.nir_ir.specs.Shader.{Shader}
 use Rattle.nir_mean.specs.declared.outcome.Ending.TheVariants.{Done, Cut}
 use Rattle.nir_mean.specs.Outcome.{outcome}
-use Rattle.nir_mean.specs.Replaced.{SameValue}
-use Rattle.nir_mean.specs.OneBlock.{ValidBlock}
 use Rattle.nir_mean.specs.Values.{alu_mean}
 
 abbrev value : ℕ → ValueId
@@ -72,46 +68,6 @@ sum_of_inputs = record {
 pub sum_worked : outcome sum_of_inputs ((200 ∷ []) ∷ (100 ∷ []) ∷ []) [] 0 ≡ record { ending = Done; stores = []; outputs = (44 ∷ []) ∷ [] }
 unfolding outcome alu_mean view_mean shape_of unsized_width op_info row_of op_mean meaning residue
 sum_worked = refl
-
-sum_read : (id : ValueId) (at : ℕ) → slice_get (value 0 ∷ value 1 ∷ []) at ≡ Some id → (nat_eq id.0 1 || (nat_eq id.0 0 || false)) ≡ true
-sum_read id zero is = ap (λ v. nat_eq v.0 1 || (nat_eq v.0 0 || false)) (sym (same_Some (value 0) id is))
-sum_read id (suc zero) is = ap (λ v. nat_eq v.0 1 || (nat_eq v.0 0 || false)) (sym (same_Some (value 1) id is))
-sum_read id (suc (suc at)) is = absurd (none-some id is)
-
-sum_told : (id : ValueId) (at : ℕ) → slice_get (value 2 ∷ []) at ≡ Some id → (nat_eq id.0 2 || (nat_eq id.0 1 || (nat_eq id.0 0 || false))) ≡ true
-sum_told id zero is = ap (λ v. nat_eq v.0 2 || (nat_eq v.0 1 || (nat_eq v.0 0 || false))) (sym (same_Some (value 2) id is))
-sum_told id (suc at) is = absurd (none-some id is)
-
-pub sum_valid : ValidBlock sum_of_inputs
-unfolding op_info row_of op_allows unsized_width source_widths result_width
-sum_valid = (
-  record {
-    phis = refl;
-    jump = refl;
-    instrs = (
-      (λ id at. absurd (none-some id at.1)),
-      refl,
-      (
-        (λ id at. absurd (none-some id at.1)),
-        refl,
-        (
-          (λ id at. sum_read id at.0 at.1),
-          record {
-            widths = record { allowed = refl; result = refl; sources = refl };
-            counts = record { result = refl; sources = refl };
-            names = ((lit< tt, tt), ((lit< tt, tt), tt));
-          },
-          (
-            (λ id at. sum_told id at.0 at.1),
-            refl,
-            tt,
-          ),
-        ),
-      ),
-    );
-  },
-  tt,
-)
 
 -- two words of 16 bits stored and loaded as one of 32, and again where the second is not inside the buffer
 abbrev store_and_load : ℕ → Shader
@@ -185,32 +141,6 @@ first_worked = refl
 pub second_worked : outcome choice ((0 ∷ []) ∷ []) [] 0 ≡ record { ending = Done; stores = []; outputs = (7 ∷ []) ∷ [] }
 unfolding outcome
 second_worked = refl
-
--- the sum of two consts, and the const that can take its place
-abbrev sum_instr : Instr
-sum_instr = Alu (value 2) Iadd w8x1 (first_of 0 ∷ first_of 1 ∷ [])
-
-abbrev sum_of_consts : Shader
-sum_of_consts = record {
-  inputs = [];
-  outputs = w8x1 ∷ [];
-  buffers = 0;
-  body = BlockThen (block_of 0 [] (
-      Const (value 0) w8x1 (200 ∷ [])
-      ∷ Const (value 1) w8x1 (100 ∷ [])
-      ∷ sum_instr
-      ∷ Output (record { 0 = 0 }) 0 (value 2)
-      ∷ [])) Nil;
-  next_value = 3;
-}
-
-pub fold_worked : SameValue sum_of_consts sum_instr (Const (value 2) w8x1 (44 ∷ []))
-unfolding alu_mean view_mean shape_of unsized_width op_info row_of op_mean meaning residue
-fold_worked inputs repeats set state given known reads =
-    let first : state.values 0 ≡ 200 ∷ [] = known.values.equal (value 0) (Const (value 0) w8x1 (200 ∷ [])) (reads (value 0) (0, refl)) refl in
-    let second : state.values 1 ≡ 100 ∷ [] = known.values.equal (value 1) (Const (value 1) w8x1 (100 ∷ [])) (reads (value 1) (1, refl)) refl in
-    sym (ap (λ comps. op_mean Iadd 8 8 (slice_index comps 0 ∷ slice_index (state.values 1) 0 ∷ []) ∷ []) first
-    ∙ ap (λ comps. op_mean Iadd 8 8 (200 ∷ slice_index comps 0 ∷ []) ∷ []) second)
 
 -- loads and stores that are not wholly inside: components outside are 0, and are dropped
 abbrev w16x1 : Kind

@@ -17,7 +17,6 @@ use Rattle.nir_ir.specs.Definitions.{instrs}
 use Rattle.nir_ir.specs.Shader.{Shader}
 use Rattle.nir_ir.specs.Splits.{instrs-BlockThen}
 use Rattle.nir_validate.specs.Valid.{Valid}
-use Rattle.nir_mean.specs.OneBlock.{ValidBlock, block_from_valid}
 use Rattle.nir_search.specs.Weight.{instr_weight, weight_of}
 use Rattle.nir_opt.specs.FirstForm.{body_fits, is_first_form, is_w8x1, only_block}
 
@@ -71,22 +70,3 @@ pub weight-one_block : (weight : Op → ℕ) (s : Shader) (b : block.Block) → 
 weight-one_block weight s b e =
     ap (sum_by (instr_weight weight)) (sym (append-nil b.instrs) ∙ sym (instrs-BlockThen b Nil))
     ∙ ap (λ (nodes : Nodes). sum_by (instr_weight weight) (instrs nodes)) (sym (body-only_block s.body b e))
-
--- a shader of the form that is built has one block
-both : (a b : Bool) → (if a then b else false) ≡ true → b ≡ true
-both true b h = h
-both false b h = absurd (true≢false (sym h))
-
-fitting : (s : Shader) (found : Option block.Block) → found ≡ only_block s.body → body_fits found ≡ true → Valid s → ValidBlock s
-fitting s None is fit valid = absurd (true≢false (sym fit))
-fitting s (Some b) is fit valid = block_from_valid s b (body-only_block s.body b is) valid
-
-pub valid_block : (s : Shader) → is_first_form s ≡ true → Valid s → ValidBlock s
-unfolding is_first_form
-valid_block s form valid =
-    let fit : Bool = body_fits (only_block s.body) in
-    let outputs : Bool = if list_all is_w8x1 s.outputs then fit else false in
-    let inputs : Bool = if list_all is_w8x1 s.inputs then outputs else false in
-    fitting s (only_block s.body) refl
-    (both (list_all is_w8x1 s.outputs) fit (both (list_all is_w8x1 s.inputs) outputs (both (nat_eq s.buffers 0) inputs form)))
-    valid

@@ -8,7 +8,7 @@ ghost use Rattle.nir_search.specs.Put.{root_of, view_source};
 ghost use Rattle.nir_search.specs.Steps.{IsHit, put_hit};
 ghost use Rattle.nir_search.specs.Weight.{weight_of};
 ghost use Rattle.nir_search.specs.Built.{is_built, is_leaf};
-ghost use Rattle.nir_mean.specs.OneBlock.{ValidBlock};
+ghost use Rattle.nir_validate.specs.Valid.{Valid};
 ghost use Rattle.nir_mean.specs.Same.{Same};
 ghost use Rattle.rule_term.specs.Weights.{initial_weight};
 
@@ -101,8 +101,8 @@ fn leaf_instr(
 }
 
 /// The shader after the replacement of the hit's rule was put in the place of the instruction that defines the value,
-/// where the hit's rule and variant match with the hit's substitution. A valid shader of one block stays valid, and means
-/// the same. After `OutOfMemory` the shader is dropped. Linear in the size of the shader.
+/// where the hit's rule and variant match with the hit's substitution. A valid shader stays valid, and means the same.
+/// After `OutOfMemory` the shader is dropped. Linear in the size of the shader.
 pub fn rewrite_at(
     alloc: Global,
     shader: Shader,
@@ -114,8 +114,8 @@ pub fn rewrite_at(
     requires hit { IsHit table.now.rules shader.body value hit.now }
     ensures put { IfOk result (λ after. put_hit table.now.rules shader value hit.now ≡ Some after) }
     ensures lighter { IfOk result (λ after. weight_of initial_weight after + 1 ≡ weight_of initial_weight shader) }
-    ensures valid { ValidBlock shader → IfOk result (λ after. ValidBlock after) }
-    ensures same { ValidBlock shader → IfOk result (λ after. Same shader after) }
+    ensures valid { Valid shader → IfOk result (λ after. Valid after) }
+    ensures same { Valid shader → IfOk result (λ after. Same shader after) }
 {
     let count = count_at(&shader, value);
     let rule = table.rule(hit.rule);

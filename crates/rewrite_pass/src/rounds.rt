@@ -5,7 +5,7 @@ ghost use Rattle.std.specs.List.{list_all};
 ghost use Rattle.nir_search.specs.First.{first_hit};
 ghost use Rattle.nir_search.specs.Steps.{is_settled};
 ghost use Rattle.nir_search.specs.Built.{is_built};
-ghost use Rattle.nir_mean.specs.OneBlock.{ValidBlock};
+ghost use Rattle.nir_validate.specs.Valid.{Valid};
 ghost use Rattle.nir_mean.specs.Same.{Same};
 ghost use Rattle.rewrite_pass.specs.Rewriting.{Grows, Rewrites};
 
@@ -73,8 +73,8 @@ pub fn rewrite_all<L: Ledger>(
     ensures few { IfOk result (λ r. r.rewrites ≤ limit) }
     ensures settled { IfOk result (λ r. (is_settled options.now table.now.rules r.shader ≡ true) ⊎ (r.rewrites ≡ limit)) }
     ensures journal { Grows options.now table.now.rules shader journal.old journal.new }
-    ensures valid { ValidBlock shader → IfOk result (λ r. ValidBlock r.shader) }
-    ensures same { ValidBlock shader → IfOk result (λ r. Same shader r.shader) }
+    ensures valid { Valid shader → IfOk result (λ r. Valid r.shader) }
+    ensures same { Valid shader → IfOk result (λ r. Same shader r.shader) }
 {
     // The proof learns that the shader is shaped, and that the rules of the table are formed and hold.
     let _bound = shader.next_value;

@@ -1,5 +1,5 @@
 -- What a replacement is built of fits and is shaped, and reads what the variables are bound to or what was built before.
-use Rattle.std.specs.Prelude.{◌≡◌, refl, ◌<◌, ◌≤◌, ◌+◌, ◌^◌, ◌&&◌, ◌||◌, ◌==◌, ℕ, zero, suc, ℤ, pos, negsuc, Bool, true, false, not, Option, Some, None, List, [], ◌∷◌, ◌++◌, map, length, replicate, nat_eq, nat_lt, slice_get, drop, is_none}
+use Rattle.std.specs.Prelude.{◌≡◌, refl, ◌<◌, ◌≤◌, ◌+◌, ◌^◌, ◌&&◌, ◌==◌, ℕ, zero, suc, ℤ, pos, negsuc, Bool, true, not, Option, Some, None, List, [], ◌∷◌, ◌++◌, map, length, replicate, nat_eq, nat_lt, slice_get, drop, is_none}
 use Rattle.std.proofs.Common.{sym, ◌∙◌, ap, ap₂, subst, arith, mod-lt}
 use Rattle.std.proofs.lemmas.Bool.{and_parts, eq-eqb, eqb-true, ltb-true, or_left, or_right}
 use Rattle.std.proofs.lemmas.List.{length-replicate}

@@ -1,12 +1,11 @@
 -- What is built of a replacement has, behind its instructions, the values of the terms.
-use Rattle.std.specs.Prelude.{◌≡◌, refl, ◌<◌, ◌≤◌, ◌+◌, ◌&&◌, ℕ, zero, suc, Bool, true, false, Option, Some, List, [], ◌∷◌, ◌++◌, map, length, replicate, nat_eq, slice_index, drop}
+use Rattle.std.specs.Prelude.{◌≡◌, refl, ◌<◌, ◌≤◌, ℕ, zero, suc, true, Option, Some, List, [], ◌∷◌, ◌++◌, map, length, slice_index, drop}
 use Rattle.std.proofs.Common.{sym, ◌∙◌, ap, ap₂, subst, arith}
 use Rattle.std.proofs.lemmas.Bool.{and_parts, ne_eqb}
 use Rattle.std.proofs.lemmas.List.{get_or-map, get_or-replicate}
 use Rattle.std.proofs.lemmas.List.FromFn.{get_or-map-range_with_len}
-use Rattle.std.specs.List.{AllByRecursion, list_all, range_with_len, slice_index_or}
+use Rattle.std.specs.List.{AllByRecursion, list_all, slice_index_or}
 use Rattle.list_laws.specs.AllLaws.{all_back, all_each, all_front}
-use Rattle.nir_ops.specs.declared.op.Op.{Op}
 use Rattle.nir_ops.specs.declared.width.Width.{Width}
 use Rattle.nir_ops.specs.Width.{width_bits}
 use Rattle.op_eval.specs.Calls.{unsized_width}
@@ -16,9 +15,8 @@ use Rattle.op_eval.specs.Word.{residue}
 use Rattle.nir_ir.specs.declared.ids.ValueId.{ValueId}
 use Rattle.nir_ir.specs.declared.instr.Instr.{Instr}
 use Rattle.nir_ir.specs.declared.instr.Instr.TheVariants.{Alu}
-use Rattle.nir_ir.specs.declared.instr.Src.{Src}
 use Rattle.nir_ir.specs.declared.kind.Kind.{Kind}
-use Rattle.nir_ir.specs.Definitions.{Kinds, kind_of_target, width_in}
+use Rattle.nir_ir.specs.Definitions.{kind_of_target, width_in}
 use Rattle.nir_ir.specs.Items.{target}
 use Rattle.nir_ir.specs.Shaped.{IsCount}
 use Rattle.rule_term.specs.Formed.{replace_piece_formed}
@@ -31,8 +29,8 @@ use Rattle.nir_search.specs.declared.hit.Bind.{Bind}
 use Rattle.nir_search.specs.Put.{bound_to, const_instr, made, view_source, whole_source}
 use Rattle.nir_mean.specs.Reads.{run_instrs-append, with_value-here, with_value-other}
 use Rattle.nir_mean.specs.Run.{Setting, run_instr, run_instrs, value_of}
-use Rattle.nir_mean.specs.State.{State, with_target, with_value}
-use Rattle.nir_mean.specs.Values.{Values, alu_mean, read, source_sizes}
+use Rattle.nir_mean.specs.State.{State, with_target}
+use Rattle.nir_mean.specs.Values.{Values, read}
 use Rattle.rule_meaning.specs.BuiltLaws.{AreSized, AreSources, KindsTold, app_formed, app_obeys, built_fits, var_formed}
 use Rattle.rule_meaning.specs.Env.{at_place, env}
 use Rattle.rule_meaning.specs.RowLaws.{InRow, made_in_order}

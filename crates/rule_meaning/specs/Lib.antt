@@ -2,17 +2,13 @@ pub mod Bound
 pub mod BoundViews
 pub mod Env
 pub mod Fit
-pub mod Fitting
 pub mod Found
 pub mod Hits
 pub mod Leaf
 pub mod Matched
 pub mod Parts
-pub mod Replaced
 pub mod SourceViews
-pub mod Sources
 pub mod StepSame
-pub mod StepValue
 pub mod Unfit
 pub mod Views
 pub mod Walked

@@ -1,7 +1,7 @@
 -- What a match of a rule says: the variables are bound to views of values in the set, what they have there are words of their sizes that meet the conditions, and the search side has the value at which the rule matches.
 use Rattle.op_eval.specs.Calls.{same_width}
 use Rattle.op_eval.specs.Sizes.{same_width-same}
-use Rattle.std.specs.Prelude.{◌≡◌, refl, ◌<◌, ◌≤◌, ◌+◌, ℕ, zero, suc, true, Option, Some, None, List, [], ◌∷◌, ◌++◌, length, replicate, slice_get, slice_index, drop}
+use Rattle.std.specs.Prelude.{◌≡◌, refl, ◌<◌, ◌≤◌, ◌+◌, ℕ, zero, suc, true, Option, Some, None, List, [], ◌∷◌, length, replicate, slice_get, slice_index, drop}
 use Rattle.std.proofs.Common.{sym, ◌∙◌, ap, ap₂, subst, arith}
 use Rattle.std.proofs.lemmas.Bool.{and_parts}
 use Rattle.std.proofs.lemmas.List.{length-replicate, take-replicate}

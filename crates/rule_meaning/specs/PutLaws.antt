@@ -1,11 +1,11 @@
 -- A step by a rule that holds keeps a shader shaped, valid and what it means, at all sizes and wherever the instruction stands.
-use Rattle.std.specs.Prelude.{◌≡◌, refl, ◌<◌, ◌≤◌, ◌^◌, ◌⊎◌, ℕ, zero, suc, Bool, true, false, ◌||◌, List, [], ◌∷◌, ◌++◌, length, map, nat_eq, nat_lt, Option, Some, None, slice_get, slice_index, drop}
+use Rattle.std.specs.Prelude.{◌≡◌, refl, ◌<◌, ◌^◌, ◌⊎◌, ℕ, suc, true, false, ◌||◌, List, [], ◌∷◌, length, map, nat_eq, Option, Some, None, slice_get, slice_index}
 use Rattle.std.proofs.Common.{sym, ◌∙◌, ap, ap₂, subst, arith, inl, inr, ⊎_elim}
 use Rattle.std.proofs.lemmas.Bool.{eq-eqb, false≢true, lt-ltb, ltb-true, or_cases, or_left}
 use Rattle.std.proofs.lemmas.List.{ext_get_or, length-map}
-use Rattle.std.proofs.lemmas.Option.{none-some, same_Some}
+use Rattle.std.proofs.lemmas.Option.{same_Some}
 use Rattle.std.specs.List.{AllByRecursion, flat_map, list_all, list_any, slice_index_or}
-use Rattle.std.specs.Option.{option_and_then, option_map, option_map_or, option_or, option_to_list}
+use Rattle.std.specs.Option.{option_map_or, option_to_list}
 use Rattle.list_laws.specs.AllLaws.{all_each, all_of_map}
 use Rattle.nir_ops.specs.declared.op.Op.{Op}
 use Rattle.nir_ops.specs.declared.width.Width.{Width}
@@ -17,14 +17,14 @@ use Rattle.nir_ir.specs.declared.instr.Instr.TheVariants.{Alu, Const, Undef, Inp
 use Rattle.nir_ir.specs.declared.instr.Src.{Src}
 use Rattle.nir_ir.specs.declared.kind.Kind.{Kind}
 use Rattle.nir_ir.specs.Definitions.{Kinds, instr_defining, instrs, instr_of, is_target, kind_at, kind_of_target, width_at, width_in}
-use Rattle.nir_ir.specs.Edits.{ArePlaced, replaced, with_news}
+use Rattle.nir_ir.specs.Edits.{ArePlaced, with_news}
 use Rattle.nir_ir.specs.Found.{found_all}
 use Rattle.nir_ir.specs.Items.{Item, BlockHead, IfHead, InstrItem, JumpItem, LoopHead, PhiItem, items, reads, target, values_defined}
 use Rattle.nir_ir.specs.Shader.{Shader}
-use Rattle.nir_ir.specs.Shaped.{IsCount, IsOneOf, IsShaped, IsShapedInstr}
+use Rattle.nir_ir.specs.Shaped.{IsCount, IsOneOf, IsShaped}
 use Rattle.edit_laws.specs.ItemsLaws.{target_numbers, value_defined}
 use Rattle.edit_laws.specs.KindsLaws.{kind_kept, news_told}
-use Rattle.edit_laws.specs.NumbersLaws.{member_has, one_of-back, one_of-front, one_of-here}
+use Rattle.edit_laws.specs.NumbersLaws.{member_has, one_of-back, one_of-front}
 use Rattle.edit_laws.specs.PlacedLaws.{AreShaped}
 use Rattle.nir_validate.specs.Each.{InstrsWalked}
 use Rattle.nir_validate.specs.Edges.{Set, set_after, with_member}
@@ -35,16 +35,15 @@ use Rattle.nir_validate.specs.Valid.{Valid}
 use Rattle.walk_laws.specs.GrownLaws.{IsBelow}
 use Rattle.walk_laws.specs.PlacedLaws.{IsInPlace, made_by}
 use Rattle.walk_laws.specs.SetsLaws as sets
-use Rattle.nir_mean.specs.Known.{Equation, HasKind, IsKnown}
+use Rattle.nir_mean.specs.Known.{Equation, IsKnown}
 use Rattle.nir_mean.specs.Points as points
 use Rattle.nir_mean.specs.Points.{defining_target, kind_at-defines}
 use Rattle.nir_mean.specs.Reads.{alu_mean-same, with_value-here, with_value-other}
 use Rattle.nir_mean.specs.Run.{Setting, run_instr, run_instrs, value_of}
 use Rattle.nir_mean.specs.Same.{InputsFit}
-use Rattle.nir_mean.specs.State.{State, with_target}
-use Rattle.nir_mean.specs.Values.{Values}
+use Rattle.nir_mean.specs.State.{State}
 use Rattle.run_laws.specs.Agree.{Agree}
-use Rattle.run_laws.specs.EquationsLaws.{alu_sources, makings_tell}
+use Rattle.run_laws.specs.EquationsLaws.{makings_tell}
 use Rattle.run_laws.specs.InPlace.{ComputesSame, Keeps, basis_for, values_below}
 use Rattle.run_laws.specs.InPlaceLaws.{in_place-keeps, kind_below}
 use Rattle.run_laws.specs.KindsLaws.{all_get}
@@ -56,15 +55,15 @@ use Rattle.rule_term.specs.Formed.{IsFormed, is_application}
 use Rattle.rule_term.specs.Holds.{Holds, is_met, is_word, values_of}
 use Rattle.rule_term.specs.Rule.{Rule}
 use Rattle.rule_term.specs.Terms.{Terms, Nil, VarThen, LitThen, AppThen}
-use Rattle.rule_term.specs.Typings.{Occurrence, first_of, is_typing, occurrences, replace_part, roots, search_part}
+use Rattle.rule_term.specs.Typings.{first_of, is_typing, occurrences, replace_part, roots, search_part}
 use Rattle.nir_search.specs.declared.hit.Bind.{Bind}
 use Rattle.nir_search.specs.Match.{match_of}
 use Rattle.nir_search.specs.Put.{Root, bound_to, root_of}
 use Rattle.nir_search.specs.Steps.{count_of, put, put_typed, typing_with}
-use Rattle.rule_meaning.specs.BuiltLaws.{AreSized, AreSources, HoldsBound, IsSource, KindsTold}
+use Rattle.rule_meaning.specs.BuiltLaws.{AreSized, AreSources, HoldsBound, KindsTold}
 use Rattle.rule_meaning.specs.BuiltValuesLaws.{env_at, env_same}
 use Rattle.rule_meaning.specs.Env.{at_place, env}
-use Rattle.rule_meaning.specs.Fit.{IsFit, component_count}
+use Rattle.rule_meaning.specs.Fit.{IsFit}
 use Rattle.rule_meaning.specs.Found.{found_sound}
 use Rattle.rule_meaning.specs.Hits.{Matched, matched}
 use Rattle.rule_meaning.specs.Matched.{IsMatch, binds_count, root_met, sizes_bound, sizes_met, some_map, value_met, words_met}

@@ -1,20 +1,18 @@
 -- A whole replacement: the instructions that take the place of the one at which a rule matches, the last of which defines its value.
-use Rattle.std.specs.Prelude.{◌≡◌, refl, ◌<◌, ◌≤◌, ◌+◌, ◌^◌, ◌&&◌, ℕ, zero, suc, Bool, true, false, Option, Some, None, List, [], ◌∷◌, ◌++◌, map, length, replicate, nat_eq, slice_index, drop}
+use Rattle.std.specs.Prelude.{◌≡◌, refl, ◌<◌, ◌^◌, ℕ, suc, true, Some, List, [], ◌∷◌, map, length, slice_index, drop}
 use Rattle.std.proofs.Common.{sym, ◌∙◌, ap, ap₂, subst, arith, mod-eq_of_lt}
 use Rattle.std.proofs.lemmas.Bool.{and_parts}
 use Rattle.std.proofs.lemmas.List.{get_or-replicate, length-replicate}
 use Rattle.std.proofs.lemmas.Option.{none-some}
-use Rattle.std.specs.List.{AllByRecursion, list_all, slice_index_or}
-use Rattle.std.specs.Option.{option_map_or}
-use Rattle.list_laws.specs.AllLaws.{all_append, all_back, all_front}
-use Rattle.nir_ops.specs.declared.op.Op.{Op}
+use Rattle.std.specs.List.{AllByRecursion, list_all}
+use Rattle.list_laws.specs.AllLaws.{all_append, all_front}
 use Rattle.nir_ops.specs.declared.op.Op.TheVariants.{Mov}
 use Rattle.nir_ops.specs.declared.width.Width.{Width}
 use Rattle.nir_ops.specs.declared.width.Width.TheVariants.{W1, W8, W16, W32, W64}
 use Rattle.nir_ops.specs.Opcodes.{op_allows, op_info, row_of}
 use Rattle.nir_ops.specs.Width.{width_bits}
 use Rattle.op_eval.specs.declared.shape.Shape.TheVariants.{EachPlace}
-use Rattle.op_eval.specs.Calls.{Fits, result_width, sizes_fit, source_widths, unsized_width}
+use Rattle.op_eval.specs.Calls.{result_width, sizes_fit, source_widths, unsized_width}
 use Rattle.op_eval.specs.Meaning.{meaning, op_mean}
 use Rattle.op_eval.specs.Sizes.{Fits-from_sizes_fit}
 use Rattle.op_eval.specs.Views.{CountsFit, column, shape_of}
@@ -22,7 +20,6 @@ use Rattle.op_eval.specs.Word.{residue}
 use Rattle.nir_ir.specs.declared.ids.ValueId.{ValueId}
 use Rattle.nir_ir.specs.declared.instr.Instr.{Instr}
 use Rattle.nir_ir.specs.declared.instr.Instr.TheVariants.{Alu}
-use Rattle.nir_ir.specs.declared.instr.Src.{Src}
 use Rattle.nir_ir.specs.declared.kind.Kind.{Kind}
 use Rattle.nir_ir.specs.Definitions.{Kinds, kind_of_target, width_in}
 use Rattle.nir_ir.specs.Edits.{ArePlaced}
@@ -40,10 +37,10 @@ use Rattle.rule_term.specs.Typings.{Occurrence, first_of, obeys, occurrences, ro
 use Rattle.nir_search.specs.declared.hit.Bind.{Bind}
 use Rattle.nir_search.specs.Put.{Root, bound_to, const_instr, made, root_of, view_source}
 use Rattle.nir_mean.specs.Reads.{run_instrs-append, with_value-here}
-use Rattle.nir_mean.specs.Run.{Setting, run_instr, run_instrs, value_of}
+use Rattle.nir_mean.specs.Run.{Setting, run_instrs, value_of}
 use Rattle.nir_mean.specs.State.{State}
-use Rattle.nir_mean.specs.Values.{Values, read, source_sizes}
-use Rattle.rule_meaning.specs.BuiltLaws.{AreSized, AreSources, HoldsBound, KindsTold, SourceFits, app_fits, app_formed, app_obeys, built_fits, built_reads, const_shaped, reads_of_sources, var_formed, walked_append}
+use Rattle.nir_mean.specs.Values.{read, source_sizes}
+use Rattle.rule_meaning.specs.BuiltLaws.{AreSized, AreSources, HoldsBound, KindsTold, app_fits, app_formed, app_obeys, built_fits, built_reads, const_shaped, reads_of_sources, var_formed, walked_append}
 use Rattle.rule_meaning.specs.BuiltValuesLaws.{built_values, env_at, view_read}
 use Rattle.rule_meaning.specs.Env.{at_place, env}
 use Rattle.rule_meaning.specs.RowLaws.{made_in_order, row_targets}

@@ -1,6 +1,6 @@
 -- What the variables of a match are bound to stands below the instruction at which the rule matches: views of values that it reads, or of which those are made.
-use Rattle.std.specs.Prelude.{◌≡◌, refl, ◌<◌, ◌&&◌, ℕ, true, List, Option, Some, length, map, nat_eq, if◌then◌else◌}
-use Rattle.std.proofs.Common.{sym, ◌∙◌, ap, subst}
+use Rattle.std.specs.Prelude.{◌≡◌, refl, ◌<◌, ℕ, true, List, Some, length, nat_eq, if◌then◌else◌}
+use Rattle.std.proofs.Common.{sym, ◌∙◌, subst}
 use Rattle.std.proofs.lemmas.Bool.{and_parts, eqb-true}
 use Rattle.std.specs.List.{AllByRecursion}
 use Rattle.list_laws.specs.AllLaws.{all_map}
@@ -16,7 +16,6 @@ use Rattle.nir_ir.specs.Shader.{Shader}
 use Rattle.nir_ir.specs.Uses.{use_count}
 use Rattle.nir_validate.specs.Edges.{Set}
 use Rattle.rule_term.specs.Formed.{IsFormed, may_stand, search_piece_formed}
-use Rattle.rule_term.specs.Pieces.{AppPiece}
 use Rattle.rule_term.specs.Rule.{Rule}
 use Rattle.nir_search.specs.declared.hit.Bind.{Bind}
 use Rattle.nir_search.specs.Match.{child, children, has_op, match_of, root_view, swapped}

@@ -1,28 +1,18 @@
 -- What a replacement is built of are instructions with fresh numbers in a row.
-use Rattle.std.specs.Prelude.{◌≡◌, refl, ◌<◌, ◌≤◌, ◌+◌, ◌&&◌, ◌||◌, ℕ, zero, suc, ℤ, Bool, true, false, not, Option, Some, None, List, [], ◌∷◌, ◌++◌, map, length, replicate, nat_eq, nat_lt, slice_index, drop, is_none}
-use Rattle.std.proofs.Common.{sym, ◌∙◌, ap, ap₂, subst, arith, append_assoc}
-use Rattle.std.proofs.lemmas.Bool.{and_parts, eq-eqb, eqb-true, ltb-true, ne_eqb, or_right}
+use Rattle.std.specs.Prelude.{◌≡◌, refl, ◌<◌, ◌+◌, ℕ, suc, false, Option, Some, List, [], ◌∷◌, ◌++◌, map, length, nat_eq, drop}
+use Rattle.std.proofs.Common.{sym, ◌∙◌, ap, ap₂, subst, arith}
+use Rattle.std.proofs.lemmas.Bool.{ne_eqb}
 use Rattle.std.proofs.lemmas.Option.{same_Some}
-use Rattle.std.specs.List.{AllByRecursion, list_all, range_with_len, slice_index_or}
-use Rattle.list_laws.specs.AllLaws.{all_append, all_back, all_each, all_front, passes_append}
-use Rattle.nir_ops.specs.declared.op.Op.{Op}
+use Rattle.std.specs.List.{AllByRecursion, range_with_len}
 use Rattle.nir_ops.specs.declared.width.Width.{Width}
-use Rattle.nir_ops.specs.Opcodes.{op_info}
-use Rattle.nir_ops.specs.Width.{width_bits}
-use Rattle.op_eval.specs.Calls.{Fits, sizes_fit, unsized_width}
-use Rattle.op_eval.specs.Sizes.{Fits-from_sizes_fit}
 use Rattle.nir_ir.specs.declared.ids.ValueId.{ValueId}
 use Rattle.nir_ir.specs.declared.instr.Instr.{Instr}
-use Rattle.nir_ir.specs.declared.instr.Instr.TheVariants.{Alu, Const}
-use Rattle.nir_ir.specs.declared.instr.Src.{Src}
-use Rattle.nir_ir.specs.declared.kind.Kind.{Kind}
+use Rattle.nir_ir.specs.declared.instr.Instr.TheVariants.{Alu}
 use Rattle.nir_ir.specs.Items.{target}
-use Rattle.rule_term.specs.Formed.{may_stand, replace_piece_formed}
-use Rattle.rule_term.specs.Pieces.{pieces, terms_count}
 use Rattle.rule_term.specs.Terms.{Terms, Nil, VarThen, LitThen, AppThen}
 use Rattle.rule_term.specs.Typings.{first_of, size_of}
 use Rattle.nir_search.specs.declared.hit.Bind.{Bind}
-use Rattle.nir_search.specs.Put.{Made, bound_to, const_instr, made, view_source, whole_source}
+use Rattle.nir_search.specs.Put.{Made, made}
 
 -- ---- numbers in a row
 

@@ -1,5 +1,5 @@
 -- What a match says of each variable, from what it says of each occurrence: the typing gives a variable one size, and the replacement has variables of the search side alone.
-use Rattle.std.specs.Prelude.{◌≡◌, refl, ◌<◌, ◌&&◌, ◌||◌, ◌+◌, ℕ, zero, suc, Bool, true, false, not, List, [], ◌∷◌, ◌++◌, nat_eq, length, drop}
+use Rattle.std.specs.Prelude.{◌≡◌, refl, ◌<◌, ◌&&◌, ◌+◌, ℕ, suc, Bool, true, not, List, [], ◌∷◌, ◌++◌, nat_eq, length, drop}
 use Rattle.std.proofs.Common.{sym, ◌∙◌, ap, subst, arith}
 use Rattle.std.proofs.lemmas.Bool.{and_parts, eq-eqb}
 use Rattle.std.proofs.lemmas.Grind.{flat_map-append}
@@ -13,7 +13,6 @@ use Rattle.rule_term.specs.Pieces.{LitPiece, VarPiece, pieces, var_of, vars_of}
 use Rattle.rule_term.specs.Rule.{Rule}
 use Rattle.rule_term.specs.Terms.{Terms, Nil, VarThen, LitThen, AppThen}
 use Rattle.rule_term.specs.Typings.{Occurrence, agree, alike, first_of, is_typing, obeys, occurrences, replace_part, search_part, size_of}
-use Rattle.nir_search.specs.declared.hit.Bind.{Bind}
 use Rattle.nir_mean.specs.Points.{or_other}
 use Rattle.rule_meaning.specs.Bound.{all_numbered}
 use Rattle.rule_meaning.specs.BuiltLaws.{app_formed, var_formed}

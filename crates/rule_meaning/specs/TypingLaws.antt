@@ -1,5 +1,5 @@
 -- The typing that a match picks: one of the rule's, whose sizes of the search side are those that were met.
-use Rattle.std.specs.Prelude.{◌≡◌, refl, ◌&&◌, ◌+◌, ℕ, Bool, true, false, List, [], ◌∷◌, filter, Option, Some, None, cond, length}
+use Rattle.std.specs.Prelude.{◌≡◌, refl, ◌+◌, Bool, true, false, List, [], ◌∷◌, filter, Some}
 use Rattle.std.proofs.Common.{sym, ◌∙◌, ap, ap₂, ⊎_elim}
 use Rattle.std.proofs.lemmas.Bool.{and_parts, cond-false, cond-true, false≢true, or_cases}
 use Rattle.std.proofs.lemmas.Option.{none-some, same_Some}

@@ -1,5 +1,5 @@
 -- What a match along terms says: which variables it binds, and that the terms have the values of the views that they were matched with.
-use Rattle.std.specs.Prelude.{◌≡◌, refl, ◌<◌, ◌≤◌, ◌-◌, ◌^◌, ◌%◌, ◌&&◌, ℕ, zero, suc, ℤ, Bool, true, Option, Some, None, List, [], ◌∷◌, ◌++◌, map, length, replicate, nat_eq, if◌then◌else◌, drop, is_some}
+use Rattle.std.specs.Prelude.{◌≡◌, refl, ◌<◌, ◌≤◌, ◌^◌, ◌%◌, ◌&&◌, ℕ, suc, ℤ, Bool, true, Option, Some, None, List, [], ◌∷◌, ◌++◌, map, length, nat_eq, if◌then◌else◌, drop, is_some}
 use Rattle.std.proofs.Common.{sym, ◌∙◌, ap, subst, arith}
 use Rattle.std.proofs.lemmas.Bool.{and_parts, and_from, eqb-true, lt-ltb}
 use Rattle.std.proofs.lemmas.Grind.{flat_map-append}

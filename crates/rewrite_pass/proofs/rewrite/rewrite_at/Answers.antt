@@ -63,10 +63,10 @@ returns-clause-lighter c =
 
 pub returns-clause-valid : goal.returns-clause-valid
 returns-clause-valid c = λ valid.
-    (hit_keeps c.args.table.now.rules c.args.shader c.set_instr.result c.args.value c.args.hit.now c.rule-rule.result.now c.requires.built (subst IsFormed c.rule.view_is c.rule.invariant)
-    c.rule-rule.ensures.holds c.rule-rule.ensures.value c.requires.hit (subst IsShaped c.shader.view_is c.shader.invariant) (returns-clause-put c) valid).1
+    (hit_keeps c.args.table.now.rules c.args.shader c.set_instr.result c.args.value c.args.hit.now c.rule-rule.result.now (subst IsFormed c.rule.view_is c.rule.invariant)
+    c.rule-rule.ensures.holds c.rule-rule.ensures.value c.requires.hit (subst IsShaped c.shader.view_is c.shader.invariant) (returns-clause-put c) valid).valid
 
 pub returns-clause-same : goal.returns-clause-same
 returns-clause-same c = λ valid.
-    (hit_keeps c.args.table.now.rules c.args.shader c.set_instr.result c.args.value c.args.hit.now c.rule-rule.result.now c.requires.built (subst IsFormed c.rule.view_is c.rule.invariant)
-    c.rule-rule.ensures.holds c.rule-rule.ensures.value c.requires.hit (subst IsShaped c.shader.view_is c.shader.invariant) (returns-clause-put c) valid).2
+    (hit_keeps c.args.table.now.rules c.args.shader c.set_instr.result c.args.value c.args.hit.now c.rule-rule.result.now (subst IsFormed c.rule.view_is c.rule.invariant)
+    c.rule-rule.ensures.holds c.rule-rule.ensures.value c.requires.hit (subst IsShaped c.shader.view_is c.shader.invariant) (returns-clause-put c) valid).same

@@ -15,20 +15,20 @@ loop-rewrites-preserved g c =
 
 pub returns-in-None-clause-valid : goal.returns-in-None-clause-valid
 returns-in-None-clause-valid g c = λ valid.
-    (replay_same c.args.options.now c.args.table.now.rules c.args.shader c.loop-rewrites.shader c.loop-rewrites.invariant.done c.requires.built c.rules_hold.ensures.formed c.rules_hold.ensures.hold
-    (subst IsShaped c.shader.view_is c.shader.invariant) valid c.loop-rewrites.invariant.legal).1
+    (replay_same c.args.options.now c.args.table.now.rules c.args.shader c.loop-rewrites.shader c.loop-rewrites.invariant.done c.rules_hold.ensures.formed c.rules_hold.ensures.hold
+    (subst IsShaped c.shader.view_is c.shader.invariant) valid c.loop-rewrites.invariant.legal).valid
 
 pub returns-in-None-clause-same : goal.returns-in-None-clause-same
 returns-in-None-clause-same g c = λ valid.
-    (replay_same c.args.options.now c.args.table.now.rules c.args.shader c.loop-rewrites.shader c.loop-rewrites.invariant.done c.requires.built c.rules_hold.ensures.formed c.rules_hold.ensures.hold
-    (subst IsShaped c.shader.view_is c.shader.invariant) valid c.loop-rewrites.invariant.legal).2
+    (replay_same c.args.options.now c.args.table.now.rules c.args.shader c.loop-rewrites.shader c.loop-rewrites.invariant.done c.rules_hold.ensures.formed c.rules_hold.ensures.hold
+    (subst IsShaped c.shader.view_is c.shader.invariant) valid c.loop-rewrites.invariant.legal).same
 
 pub returns-clause-valid : goal.returns-clause-valid
 returns-clause-valid g c = λ valid.
-    (replay_same c.args.options.now c.args.table.now.rules c.args.shader c.loop-rewrites.shader c.loop-rewrites.invariant.done c.requires.built c.rules_hold.ensures.formed c.rules_hold.ensures.hold
-    (subst IsShaped c.shader.view_is c.shader.invariant) valid c.loop-rewrites.invariant.legal).1
+    (replay_same c.args.options.now c.args.table.now.rules c.args.shader c.loop-rewrites.shader c.loop-rewrites.invariant.done c.rules_hold.ensures.formed c.rules_hold.ensures.hold
+    (subst IsShaped c.shader.view_is c.shader.invariant) valid c.loop-rewrites.invariant.legal).valid
 
 pub returns-clause-same : goal.returns-clause-same
 returns-clause-same g c = λ valid.
-    (replay_same c.args.options.now c.args.table.now.rules c.args.shader c.loop-rewrites.shader c.loop-rewrites.invariant.done c.requires.built c.rules_hold.ensures.formed c.rules_hold.ensures.hold
-    (subst IsShaped c.shader.view_is c.shader.invariant) valid c.loop-rewrites.invariant.legal).2
+    (replay_same c.args.options.now c.args.table.now.rules c.args.shader c.loop-rewrites.shader c.loop-rewrites.invariant.done c.rules_hold.ensures.formed c.rules_hold.ensures.hold
+    (subst IsShaped c.shader.view_is c.shader.invariant) valid c.loop-rewrites.invariant.legal).same

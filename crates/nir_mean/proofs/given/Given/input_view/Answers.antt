@@ -1,6 +1,6 @@
 use Rattle.std.proofs.Common.{◌≡◌, ◌∙◌, ℕ, List, length, sym, ap, subst, arith}
 use Rattle.nir_ops.specs.Width.{width_bits}
-use Rattle.nir_mean.specs.Block.{input_kind}
+use Rattle.nir_mean.specs.MadeKinds.{input_kind}
 use Rattle.nir_mean.specs.Seen.{inputs_of, shader_of}
 use Rattle.nir_mean.specs.ViewLaws.{AreWords}
 use Rattle.nir_mean.proofs.TableLemmas.{kind_same}
