@@ -61,10 +61,6 @@ pub record IsRoot (s : Shader) (value : ValueId) : Type 0 where
   pub count : IsCount (count_of s value)
   pub no_move : is_mov op ≡ false
 
-has_alu : (op : Op) (found : Option (Op × List Src)) → has_op op found ≡ true → option_map_or (λ alu. alu.0) found op ≡ op
-has_alu op None has = refl
-has_alu op (Some alu) has = same_true op_row.the_type tt alu.0 op has
-
 not_true : (a b : Bool) → (not a && b) ≡ true → a ≡ false
 not_true true b h = absurd (false≢true h)
 not_true false b h = refl

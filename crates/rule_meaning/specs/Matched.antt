@@ -1,16 +1,13 @@
 -- What a match of a rule says: the variables are bound to views of values in the set, what they have there are words of their sizes that meet the conditions, and the search side has the value at which the rule matches.
-use Rattle.op_eval.specs.Calls.{same_width}
-use Rattle.op_eval.specs.Sizes.{same_width-same}
 use Rattle.std.specs.Prelude.{◌≡◌, refl, ◌<◌, ◌≤◌, ◌+◌, ℕ, zero, suc, true, Option, Some, None, List, [], ◌∷◌, length, replicate, slice_get, slice_index, drop}
-use Rattle.std.proofs.Common.{sym, ◌∙◌, ap, ap₂, subst, arith}
-use Rattle.std.proofs.lemmas.Bool.{and_parts}
-use Rattle.std.proofs.lemmas.List.{length-replicate, take-replicate}
+use Rattle.std.proofs.Common.{sym, ◌∙◌, ap, subst, arith}
+use Rattle.std.proofs.lemmas.List.{length-replicate}
 use Rattle.std.proofs.lemmas.List.FromFn.{get_or-range_with_len, length-range_with_len}
 use Rattle.std.proofs.lemmas.Option.{get_or_from_slice_get, none-some, same_Some, slice_get-map}
 use Rattle.std.specs.List.{AllByRecursion, list_all, range_with_len}
 use Rattle.std.specs.Option.{option_map, option_map_or}
 use Rattle.nir_ops.specs.declared.width.Width.{Width}
-use Rattle.nir_ops.specs.declared.width.Width.TheVariants.{W1, W8}
+use Rattle.nir_ops.specs.declared.width.Width.TheVariants.{W1}
 use Rattle.std.proofs.lemmas.Grind.{flat_map-append}
 use Rattle.nir_ir.specs.declared.ids.ValueId.{ValueId}
 use Rattle.nir_ir.specs.declared.kind.Kind.{Kind}
@@ -18,16 +15,14 @@ use Rattle.nir_ir.specs.Definitions.{kind_at, width_at}
 use Rattle.nir_ir.specs.Nodes.{Nodes}
 use Rattle.nir_ir.specs.Shaped.{IsShaped}
 use Rattle.nir_ir.specs.Shader.{Shader}
-use Rattle.rule_term.specs.EightBit.{all_eight, is_eight_bit}
 use Rattle.rule_term.specs.Formed.{IsFormed}
-use Rattle.rule_term.specs.Holds.{are_met, are_words, is_met, is_word, values_of}
-use Rattle.rule_term.specs.Pieces.{pieces, terms_count, var_of, vars_of}
+use Rattle.rule_term.specs.Holds.{is_met, is_word, values_of}
+use Rattle.rule_term.specs.Pieces.{pieces, var_of, vars_of}
 use Rattle.rule_term.specs.Rule.{Rule}
 use Rattle.rule_term.specs.Terms.{Terms, Nil, VarThen, LitThen, AppThen}
-use Rattle.rule_term.specs.Typings.{Occurrence, occurrences, roots, search_part, size_of}
+use Rattle.rule_term.specs.Typings.{Occurrence, occurrences, roots, size_of}
 use Rattle.nir_search.specs.declared.hit.Bind.{Bind}
 use Rattle.nir_search.specs.Match.{all_bound, is_typed, match_of, matches, met, root_view}
-use Rattle.nir_search.specs.Met.{is_typed_eight, length-met}
 use Rattle.nir_mean.specs.Known.{IsKnown}
 use Rattle.nir_mean.specs.Points.{Closed}
 use Rattle.nir_validate.specs.Edges.{Set}
@@ -37,7 +32,7 @@ use Rattle.rule_meaning.specs.Env.{at_place, env}
 use Rattle.rule_meaning.specs.Fit.{IsFit, component_count}
 use Rattle.list_laws.specs.AllLaws.{all_append, all_back, all_front}
 use Rattle.list_laws.specs.OptionLaws.{if_some}
-use Rattle.rule_meaning.specs.Views.{IsView, kind_width}
+use Rattle.rule_meaning.specs.Views.{IsView}
 use Rattle.nir_search.specs.Put.{bound_to}
 use Rattle.rule_meaning.specs.Walked.{Agrees, HasSize, IsWalked, Says, walked}
 
@@ -167,80 +162,3 @@ module _ (s : Shader) (rule : Rule) (variant : ℕ) (value : ValueId) (kind : Ki
       ap (λ v. width_at s.body v.value) (bound_view binds o.var named.0.0 (is_bound o.var named.0.0 named.0.1)) ∙ all.0 named.0.0 named.0.1,
       each list named.1 all.1,
     )
-
--- ---- a rule at 8 bits
-
-pub record IsMatched (s : Shader) (rule : Rule) (variant : ℕ) (value : ValueId) (kind : Kind) (subst : List Bind) (set : Set) (values : Values) : Type 0 where
-  pub shaped : IsShaped s
-  pub formed : IsFormed rule
-  pub eight : is_eight_bit rule ≡ true
-  pub kind_is : kind_at s.body value ≡ Some kind
-  pub found : match_of rule variant s.body value ≡ Some subst
-  pub known : IsKnown s.body set values
-  pub fit : IsFit s.body set
-  pub inside : set value.0 ≡ true
-
-all_same : (width : Width) (list : List Width) → list_all (same_width width) list ≡ true → list ≡ replicate (length list) width
-all_same width [] all = refl
-all_same width (first ∷ list) all =
-    let parts = and_parts (same_width width first) (list_all (same_width width) list) all in
-    ap₂ (λ a l. a ∷ l) (sym (same_width-same width first parts.0)) (all_same width list parts.1)
-
-pub met_eight : (s : Shader) (rule : Rule) (variant : ℕ) (value : ValueId) (binds : List Bind) → IsFormed rule → is_eight_bit rule ≡ true → match_of rule variant s.body value ≡ Some binds
-    → sizes_met s rule variant value ≡ replicate (size_of rule.search) W8
-met_eight s rule variant value binds formed eight found =
-    let sizes = sizes_met s rule variant value in
-    let long = length-met s.body rule.search variant (root_view s.body value ∷ []) in
-    all_same W8 sizes (sym (is_typed_eight rule formed eight sizes long) ∙ (walk_of s rule variant value binds found).typed) ∙ ap (λ n. replicate n W8) long
-
-first_met : (body : Nodes) (terms : Terms) (bits : ℕ) (view : Bind) (views : List Bind) → terms_count terms ≡ 1 → list_all (same_width W8) (met body terms bits (view ∷ views)) ≡ true → width_at body view.value ≡ W8
-first_met body Nil bits view views one all = absurd (omega (arith, one))
-first_met body (VarThen var constant size cond rest) bits view views one all =
-    sym (same_width-same W8 (width_at body view.value) (and_parts (same_width W8 (width_at body view.value)) (list_all (same_width W8) (met body rest bits views)) all).0)
-first_met body (LitThen number boolean rest) bits view views one all =
-    sym (same_width-same W8 (width_at body view.value) (and_parts (same_width W8 (width_at body view.value)) (list_all (same_width W8) (met body rest bits views)) all).0)
-first_met body (AppThen op size once args rest) bits view views one all =
-    sym (same_width-same W8 (width_at body view.value) (and_parts (same_width W8 (width_at body view.value)) _ all).0)
-
--- where a rule at 8 bits matches, the value has 8 bits
-pub root_eight : (s : Shader) (rule : Rule) (variant : ℕ) (value : ValueId) (binds : List Bind) → IsFormed rule → is_eight_bit rule ≡ true → match_of rule variant s.body value ≡ Some binds → width_at s.body value ≡ W8
-root_eight s rule variant value binds formed eight found =
-    let sizes = sizes_met s rule variant value in
-    first_met s.body rule.search variant (root_view s.body value) [] formed.one_search
-    (sym (is_typed_eight rule formed eight sizes (length-met s.body rule.search variant (root_view s.body value ∷ []))) ∙ (walk_of s rule variant value binds found).typed)
-
--- the part of a typing for the search side, where each size is 8
-pub search_eight : (rule : Rule) → search_part rule (all_eight rule) ≡ replicate (size_of rule.search) W8
-search_eight rule = take-replicate (size_of rule.search) (size_of rule.search + size_of rule.replace) W8 (omega arith)
-
-module _ (s : Shader) (rule : Rule) (variant : ℕ) (value : ValueId) (kind : Kind) (binds : List Bind) (set : Set) (values : Values) (h : IsMatched s rule variant value kind binds set values) where
-  general : IsMatch s rule variant value kind binds set
-  general = record { shaped = h.shaped; formed = h.formed; kind_is = h.kind_is; found = h.found; closed = h.known.closed; fit = h.fit; inside = h.inside }
-
-  sizes_are : sizes_met s rule variant value ≡ search_part rule (all_eight rule)
-  sizes_are = met_eight s rule variant value binds h.formed h.eight h.found ∙ sym (search_eight rule)
-
-  pub match_count : length binds ≡ rule.vars
-  match_count = binds_count s rule variant value kind binds set general
-
-  -- each variable is bound to a view
-  pub match_views : AllByRecursion (IsView s.body set (component_count s.body value)) binds
-  match_views = binds_views s rule variant value kind binds set general
-
-  pub match_width : kind.width ≡ W8
-  match_width = kind_width s.body value kind h.kind_is (root_eight s rule variant value binds h.formed h.eight h.found)
-
-  pub root_count : component_count s.body value ≡ kind.count
-  root_count = count_is s rule variant value kind binds set general
-
-  -- in each place the variables have words of 8 bits that meet the conditions
-  pub match_words : (place : ℕ) → place < kind.count → (are_words rule (all_eight rule) (env binds values place) ≡ true) × (are_met rule (all_eight rule) (env binds values place) ≡ true)
-  match_words place within =
-      let both = words_met s rule variant value kind binds set general values h.known place within in (
-        ap (λ l. list_all (is_word (env binds values place)) (occurrences rule.search l)) (sym sizes_are) ∙ both.0,
-        ap (λ l. list_all (is_met (env binds values place)) (occurrences rule.search l)) (sym sizes_are) ∙ both.1,
-      )
-
-  -- and the search side has the component that stands there
-  pub match_value : (place : ℕ) → place < kind.count → values_of rule.search (search_part rule (all_eight rule)) (env binds values place) ≡ slice_index (values value.0) place ∷ []
-  match_value place within = ap (λ l. values_of rule.search l (env binds values place)) (sym sizes_are) ∙ value_met s rule variant value kind binds set general values h.known place within

@@ -75,9 +75,6 @@ mov_mean w d x small = mod-eq_of_lt small
 -- ---- numbers and the kind of the last
 
 module _ (binds : List Bind) (value : ValueId) (count : ℕ) where
-  kind_for : List Width → Kind
-  kind_for widths = record { width = first_of widths; count = count }
-
   pub root_placed : (terms : Terms) (widths : List Width) (next : ℕ) → terms_count terms ≡ 1 → ArePlaced next (root_of binds value count terms widths next).next value (root_of binds value count terms widths next).instrs
   root_placed Nil widths next one = absurd (omega (arith, one))
   root_placed (VarThen var constant size cond rest) widths next one = record {

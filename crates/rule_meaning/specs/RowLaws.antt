@@ -1,9 +1,7 @@
 -- What a replacement is built of are instructions with fresh numbers in a row.
-use Rattle.std.specs.Prelude.{◌≡◌, refl, ◌<◌, ◌+◌, ℕ, suc, false, Option, Some, List, [], ◌∷◌, ◌++◌, map, length, nat_eq, drop}
-use Rattle.std.proofs.Common.{sym, ◌∙◌, ap, ap₂, subst, arith}
-use Rattle.std.proofs.lemmas.Bool.{ne_eqb}
-use Rattle.std.proofs.lemmas.Option.{same_Some}
-use Rattle.std.specs.List.{AllByRecursion, range_with_len}
+use Rattle.std.specs.Prelude.{◌≡◌, refl, ◌+◌, ℕ, suc, Option, Some, List, [], ◌∷◌, ◌++◌, map, length, drop}
+use Rattle.std.proofs.Common.{◌∙◌, ap, ap₂, subst, arith}
+use Rattle.std.specs.List.{range_with_len}
 use Rattle.nir_ops.specs.declared.width.Width.{Width}
 use Rattle.nir_ir.specs.declared.ids.ValueId.{ValueId}
 use Rattle.nir_ir.specs.declared.instr.Instr.{Instr}
@@ -64,14 +62,3 @@ made_in_order binds count (AppThen op size once args rest) widths next =
   where
     ends : (next middle last : ℕ) (first second : List Instr) (own : Instr) → middle ≡ next + length first → last ≡ suc middle + length second → last ≡ next + length (first ++ own ∷ second)
     ends next middle last first second own one two = let long : length (first ++ own ∷ second) ≡ length first + suc (length second) = middle_length first second own in omega (arith, one, two, long)
-
--- numbers from one on are not below it
-pub row_above : (next n : ℕ) (instrs : List Instr) → InRow next instrs → n < next → AllByRecursion (λ instr. (id : ValueId) → target instr ≡ Some id → nat_eq n id.0 ≡ false) instrs
-row_above next n [] row less = tt
-row_above next n (instr ∷ instrs) row less = (
-  (λ id is. ne_eqb n id.0 (λ same. let number : next ≡ id.0 = same_id (record { 0 = next }) id (same_Some (record { 0 = next }) id (sym row.0 ∙ is)) in absurd (omega (arith, same, number, less)))),
-  row_above (suc next) n instrs row.1 (omega (arith, less)),
-)
-  where
-    same_id : (a b : ValueId) → a ≡ b → a.0 ≡ b.0
-    same_id a b h = ap (λ (v : ValueId). v.0) h

@@ -11,7 +11,7 @@ use denote.Enum.Bare.{same_true}
 use Rattle.nir_ops.specs.contracts.op.Op as opcode
 use Rattle.nir_ops.specs.declared.op.Op.{Op}
 use Rattle.nir_ops.specs.declared.row.OpInput.{OpInput}
-use Rattle.nir_ops.specs.declared.width.Width.TheVariants.{W1, W8}
+use Rattle.nir_ops.specs.declared.width.Width.TheVariants.{W1}
 use Rattle.nir_ops.specs.Opcodes.{op_info}
 use Rattle.nir_ops.specs.Width.{width_bits}
 use Rattle.op_eval.specs.declared.shape.Shape.TheVariants.{EachPlace}
@@ -30,8 +30,6 @@ use Rattle.nir_ir.specs.Found.{found_shaped}
 use Rattle.nir_ir.specs.Nodes.{Nodes}
 use Rattle.nir_ir.specs.Shaped.{IsShaped}
 use Rattle.nir_ir.specs.Shader.{Shader}
-use Rattle.rule_term.specs.EightBit.{is_unsized}
-use Rattle.rule_term.specs.EightBitLaws.{one_size}
 use Rattle.rule_term.specs.Formed.{may_stand}
 use Rattle.rule_term.specs.Standing.{per_component-from_may_stand, shape-from_may_stand}
 use Rattle.nir_search.specs.declared.hit.Bind.{Bind}
@@ -161,19 +159,6 @@ length-alu_mean kinds op kind srcs values shape =
     let args = map (read values) srcs in
     ap (λ s. length (shape_mean s op w d kind.count args)) shape
     ∙ length-map-range_with_len (λ at. op_mean op w d (column at args)) 0 kind.count
-
--- at 8 bits an opcode without sizes of its own works at 8 bits
-pub alu_mean_eight : (body : Nodes) (op : Op) (kind : Kind) (srcs : List Src) (values : Values) (place : ℕ) → shape_of op ≡ EachPlace → is_unsized op ≡ true → kind.width ≡ W8 → place < kind.count
-    → slice_index (alu_mean (kind_at body) op kind srcs values) place ≡ op_mean op 8 8 (column place (map (read values) srcs))
-alu_mean_eight body op kind srcs values place shape unsized eight within =
-    let own : unsized_width op kind.width (source_sizes (kind_at body) srcs) ≡ W8 = ap (λ w. unsized_width op w (source_sizes (kind_at body) srcs)) eight ∙ (one_size op W8 unsized).unsized (source_sizes (kind_at body) srcs) in
-    alu_mean_at (kind_at body) op kind srcs values place shape within
-    ∙ ap (λ w. op_mean op (width_bits w) (width_bits kind.width) (column place (map (read values) srcs))) own
-    ∙ ap (λ w. op_mean op 8 (width_bits w) (column place (map (read values) srcs))) eight
-
--- the bit size of a value is that of its kind
-pub kind_width : (body : Nodes) (value : ValueId) (kind : Kind) → kind_at body value ≡ Some kind → width_at body value ≡ W8 → kind.width ≡ W8
-kind_width body value kind is eight = sym (ap (λ o. option_map_or (λ k. k.width) o W1) is) ∙ eight
 
 -- a view that has a place is of a value that has a kind
 kind_from : (found : Option Kind) (n : ℕ) → n < option_map_or (λ (kind : Kind). kind.count) found 0 → (kind : Kind) × (found ≡ Some kind)
