@@ -1,12 +1,8 @@
 //! The types of an opcode's row: its sources, its result, its marks and the bit sizes at which it works.
 
-ghost use Rattle.std.specs.Prelude.{◌≡◌, ◌↔◌, [], IsTrue, length, slice_get};
-ghost use Rattle.std.specs.Option.{option_copied};
-
 use crate::props::Props;
 use crate::width::Width;
-use arrayvec::ArrayVec;
-use std::marker::Model;
+use short_lists::Short;
 
 /// How a component is read: as a signed number, as an unsigned number, or as a truth value.
 #[derive(Clone, Copy, Debug, PartialEq, Eq)]
@@ -48,62 +44,8 @@ impl Default for OpInput {
     }
 }
 
-/// The sources of an opcode in order, at most 16. Contracts see the list.
-#[derive(Debug, Drop)]
-pub struct Inputs {
-    items: ArrayVec<OpInput, 16>,
-}
-
-impl Model for Inputs {
-    ghost use Rattle.std.specs.Prelude.{List};
-    ghost use Rattle.nir_ops.specs.declared.row.OpInput.{OpInput};
-
-    ghost Value = { List OpInput };
-
-    ghost view = { λ inputs. inputs.items.items };
-}
-
-impl Inputs {
-    /// The list of these sources. Takes no memory.
-    pub fn from_array_vec(items: ArrayVec<OpInput, 16>) -> Inputs
-        ensures { result ≡ items.items }
-    {
-        Inputs { items }
-    }
-
-    /// The sources as they lie. Takes no memory.
-    pub fn into_array_vec(self) -> ArrayVec<OpInput, 16>
-        ensures { result.items ≡ self }
-    {
-        let Inputs { items } = self;
-        items
-    }
-
-    pub fn as_slice(&self) -> &[OpInput]
-        ensures { result.now ≡ self.now }
-    {
-        self.items.as_slice()
-    }
-
-    pub fn len(&self) -> usize
-        ensures { result ≡ length self.now }
-    {
-        self.items.len()
-    }
-
-    pub fn is_empty(&self) -> bool
-        ensures { IsTrue result ↔ (self.now ≡ []) }
-    {
-        self.items.is_empty()
-    }
-
-    /// The source at a place, None past the end.
-    pub fn get(&self, at: usize) -> Option<&OpInput>
-        ensures { option_copied result ≡ slice_get self.now at }
-    {
-        self.items.as_slice().get(at)
-    }
-}
+/// The sources of an opcode in order, at most 16.
+pub type Inputs = Short<OpInput, 16>;
 
 /// The row of an opcode. A count of 0 means per component.
 #[derive(Debug, Drop)]

@@ -9,7 +9,6 @@ use crate::props::Props;
 use crate::row::Base::{self, Int, Uint};
 use crate::row::{Inputs, OpInfo, OpInput, OpType, Sizes};
 use crate::width::Width::{self, W1, W8, W16, W32, W64};
-use arrayvec::ArrayVec;
 
 /// The row of the opcode: its sources, its result and its marks.
 #[tactic(auto, unfolding(crate::specs::Opcodes::op_info, crate::specs::Opcodes::row_of))]
@@ -355,12 +354,12 @@ fn source(base: Base, count: u8, size: Option<Width>) -> OpInput
 fn unary(base: Base, first: Option<Width>, out: Option<Width>) -> OpInfo
     ensures { result ≡ record { out_count = 0; out = type_at base out; inputs = map (source_at base 0) (first ∷ []); props = none } }
 {
-    let mut items = ArrayVec::new();
-    items.push(source(base, 0, first));
+    let mut inputs = Inputs::new();
+    inputs.push(source(base, 0, first));
     OpInfo {
         out_count: 0,
         out: kind(base, out),
-        inputs: Inputs::from_array_vec(items),
+        inputs,
         props: Props::NONE,
     }
 }
@@ -375,13 +374,13 @@ fn binary(
 ) -> OpInfo
     ensures { result ≡ record { out_count = 0; out = type_at base out; inputs = map (source_at base 0) (first ∷ second ∷ []); props = props } }
 {
-    let mut items = ArrayVec::new();
-    items.push(source(base, 0, first));
-    items.push(source(base, 0, second));
+    let mut inputs = Inputs::new();
+    inputs.push(source(base, 0, first));
+    inputs.push(source(base, 0, second));
     OpInfo {
         out_count: 0,
         out: kind(base, out),
-        inputs: Inputs::from_array_vec(items),
+        inputs,
         props,
     }
 }
@@ -396,14 +395,14 @@ fn ternary(
 ) -> OpInfo
     ensures { result ≡ record { out_count = 0; out = type_at base out; inputs = map (source_at base 0) (first ∷ second ∷ third ∷ []); props = none } }
 {
-    let mut items = ArrayVec::new();
-    items.push(source(base, 0, first));
-    items.push(source(base, 0, second));
-    items.push(source(base, 0, third));
+    let mut inputs = Inputs::new();
+    inputs.push(source(base, 0, first));
+    inputs.push(source(base, 0, second));
+    inputs.push(source(base, 0, third));
     OpInfo {
         out_count: 0,
         out: kind(base, out),
-        inputs: Inputs::from_array_vec(items),
+        inputs,
         props: Props::NONE,
     }
 }
@@ -413,14 +412,14 @@ fn gather(count: u8) -> OpInfo
     requires { count ≤ 16 }
     ensures { result ≡ record { out_count = count; out = type_at Base.Uint u; inputs = replicate count (source_at Base.Uint 1 u); props = none } }
 {
-    let mut items = ArrayVec::new();
+    let mut inputs = Inputs::new();
     for _at in 0..count {
-        items.push(source(Uint, 1, None));
+        inputs.push(source(Uint, 1, None));
     }
     OpInfo {
         out_count: count,
         out: kind(Uint, None),
-        inputs: Inputs::from_array_vec(items),
+        inputs,
         props: Props::NONE,
     }
 }
@@ -429,13 +428,13 @@ fn gather(count: u8) -> OpInfo
 fn reduce(count: u8) -> OpInfo
     ensures { result ≡ record { out_count = 1; out = type_at Base.Uint n1; inputs = source_at Base.Uint count u ∷ source_at Base.Uint count u ∷ []; props = commutative } }
 {
-    let mut items = ArrayVec::new();
-    items.push(source(Uint, count, None));
-    items.push(source(Uint, count, None));
+    let mut inputs = Inputs::new();
+    inputs.push(source(Uint, count, None));
+    inputs.push(source(Uint, count, None));
     OpInfo {
         out_count: 1,
         out: kind(Uint, Some(W1)),
-        inputs: Inputs::from_array_vec(items),
+        inputs,
         props: Props::COMMUTATIVE,
     }
 }

@@ -1,10 +1,7 @@
 //! What a match finds.
 
-ghost use Rattle.std.specs.Prelude.{◌≡◌, [], ◌∷◌, ◌++◌, ◌<◌, length};
-
-use arrayvec::ArrayVec;
 use nir_ir::{Swizzle, ValueId};
-use std::marker::Model;
+use short_lists::Short;
 
 /// What a variable of a rule is bound to: a value, and which of its components stand in each place.
 #[derive(Debug, Default, Drop)]
@@ -13,35 +10,8 @@ pub struct Bind {
     pub comps: Swizzle,
 }
 
-/// What each variable of a rule is bound to, by its number. Contracts see the list.
-#[derive(Debug, Drop)]
-pub struct Subst {
-    binds: ArrayVec<Bind, 16>,
-}
-
-impl Model for Subst {
-    ghost use Rattle.std.specs.Prelude.{List};
-    ghost use Rattle.nir_search.specs.declared.hit.Bind.{Bind};
-
-    ghost Value = { List Bind };
-
-    ghost view = { λ s. s.binds.items };
-}
-
-impl Subst {
-    /// What the variables are bound to, in the order of their numbers. Takes no memory.
-    pub fn from_array_vec(binds: ArrayVec<Bind, 16>) -> Subst
-        ensures { result ≡ binds.items }
-    {
-        Subst { binds }
-    }
-
-    pub fn as_slice(&self) -> &[Bind]
-        ensures { result.now ≡ self.now }
-    {
-        self.binds.as_slice()
-    }
-}
+/// What each variable of a rule is bound to, by its number, for at most 16 variables.
+pub type Subst = Short<Bind, 16>;
 
 /// A rule of a table that matches: its place in the table, which variant of it, and what its variables are bound to.
 #[derive(Debug, Drop)]

@@ -12,7 +12,7 @@ use Rattle.op_eval.proofs.whole_list.each_place.Goals as goal
 pub push-requires : goal.push-requires
 push-requires c =
     let count : length c.loop-at.comps ≡ c.loop-at.at = made_count _ c.loop-at.comps c.loop-at.at c.loop-at.invariant in
-    omega (arith, c.len-count.ensures.small)
+    omega (arith, c.len-count.ensures.fits)
 
 pub loop-at-preserved : goal.loop-at-preserved
 loop-at-preserved c =
