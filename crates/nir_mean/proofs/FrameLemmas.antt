@@ -147,19 +147,6 @@ pop_sound s frames left frame is sound = sound-front s left frame (subst (λ (li
 pub pop_frame : (s : Shader) (frames left : List Frame) (frame : Frame) → frames ≡ left ++ frame ∷ [] → FramesSound s frames → FrameSound s frame
 pop_frame s frames left frame is sound = sound-last s left frame (subst (λ (list : List Frame). FramesSound s list) is sound)
 
--- where a break and a continue go
-pub breaks_out : (s : Setting) (frames left : List Frame) (found : Option Turn) (from : Option BlockId) (state : State) → IfNone found (left ≡ [])
-    → resumed s frames (Break from state) ≡ resumed s left (left_by s found (Break from state)) → outcome_after s left (Fall from state) ≡ outcome_after s frames (Break from state)
-breaks_out s frames left None from state empty is =
-    ap (λ list. outcome_after s list (Fall from state)) empty ∙ sym (ap (λ list. outcome_after s list (Break from state)) empty) ∙ sym (ap outcome_of is)
-breaks_out s frames left (Some turn) from state empty is =
-    sym (ap outcome_of is ∙ ap (outcome_after s left) (turned-break s turn.left (nodes_of turn.body.now) from state))
-
-pub continues_none : (s : Setting) (frames left : List Frame) (from : Option BlockId) (state : State) → left ≡ [] → resumed s frames (Continue from state) ≡ resumed s left (Continue from state)
-    → outcome_after s left (Fall from state) ≡ outcome_after s frames (Continue from state)
-continues_none s frames left from state empty is =
-    ap (λ list. outcome_after s list (Fall from state)) empty ∙ sym (ap (λ list. outcome_after s list (Continue from state)) empty) ∙ sym (ap outcome_of is)
-
 pub continues_some : (s : Setting) (frames left : List Frame) (turn : Turn) (from : Option BlockId) (state : State)
     → resumed s frames (Continue from state) ≡ resumed s left (turned s turn.left (nodes_of turn.body.now) (Continue from state))
     → outcome_after s left (turned s turn.left (nodes_of turn.body.now) (Fall from state)) ≡ outcome_after s frames (Continue from state)

@@ -61,9 +61,6 @@ kinds-snoc : (views : List View) (view : View) → map kind_seen (views ++ view 
 kinds-snoc [] view = refl
 kinds-snoc (v ∷ views) view = ap (λ t. kind_seen v ∷ t) (kinds-snoc views view)
 
-phi_kinds : List Phi → List Kind
-phi_kinds phis = map (λ phi. phi.kind) phis
-
 -- one phi is written
 pub kinds_left : (phis : List Phi) (at : ℕ) (views left : List View) (view : View) (phi : Phi) → at < length phis → views ≡ left ++ view ∷ []
     → map kind_seen views ≡ map (λ p. p.kind) (take (at + 1) phis) → map kind_seen left ≡ map (λ p. p.kind) (take at phis)

@@ -62,9 +62,6 @@ numbers (item ∷ list) =
 found_in : List Declared → ℕ → Option Declared
 found_in values n = find (λ value. nat_eq value.0.0 n) values
 
-kind_in : List Declared → ℕ → Option Kind
-kind_in values n = option_map (λ value. value.1) (found_in values n)
-
 Apart : ℕ → List Declared → Type 0
 Apart n values = AllByRecursion (λ m. nat_eq n m ≡ false) (map number values)
 

@@ -10,7 +10,7 @@ use Rattle.nir_ir.specs.declared.instr.Src.{Src}
 use Rattle.nir_ir.specs.Definitions.{instr_defining, kind_at}
 use Rattle.nir_ir.specs.Nodes.{Nodes}
 use Rattle.nir_validate.specs.Edges.{Set}
-use Rattle.nir_validate.specs.OneBlock.{IsRead}
+use Rattle.nir_validate.specs.Kept.{IsRead}
 use Rattle.nir_mean.specs.Values.{Values, alu_mean}
 
 -- the value of what an opcode or a const writes

@@ -22,7 +22,7 @@ use Rattle.nir_mean.specs.Run.{Setting, kind_of, scalar, value_of, world_of}
 use Rattle.nir_mean.specs.Same.{InputsFit}
 use Rattle.nir_mean.specs.State.{State, zeros}
 use Rattle.nir_validate.specs.Rules.{count_in}
-use Rattle.nir_validate.specs.OneBlock.{IsRead}
+use Rattle.nir_validate.specs.Kept.{IsRead}
 use Rattle.nir_validate.specs.Typed.{FitsIn, NamesComponents}
 use Rattle.nir_mean.specs.Values.{Values, alu_mean, read, source_sizes}
 use Rattle.nir_mean.specs.ViewLaws.{AreWords, SourcesFit, are_words-cons, are_words-map, are_words-none, view_kind}

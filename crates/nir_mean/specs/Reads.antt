@@ -19,7 +19,7 @@ use Rattle.nir_ir.specs.Definitions.{Kinds, kind_at, kind_of_target, width_in}
 use Rattle.nir_ir.specs.Items.{target}
 use Rattle.nir_ir.specs.Nodes.{Nodes}
 use Rattle.nir_mean.specs.Known.{Equation}
-use Rattle.nir_validate.specs.OneBlock.{IsRead}
+use Rattle.nir_validate.specs.Kept.{IsRead}
 use Rattle.nir_mean.specs.Run.{Setting, kind_of, run_instr, run_instrs, scalar, value_of, world_of}
 use Rattle.nir_mean.specs.State.{State, load, put_out, store, with_value}
 use Rattle.nir_mean.specs.Values.{Values, alu_mean, read, source_sizes}

@@ -1,4 +1,4 @@
--- A run that did its work: whether its text was taken whole or not, its promises are kept.
+-- A run that came to its end: whether its text was taken whole or not, its promises are kept.
 use Rattle.std.specs.Prelude.{◌≡◌, refl, ◌≢◌, ◌⊎◌, ℕ, Bool, true, false, List, Option, Some, Ok, IsOk}
 use Rattle.std.proofs.Common.{◌∙◌, ap, inl, inr, subst, sym}
 use Rattle.std.proofs.lemmas.Bool.{true≢false}
@@ -7,7 +7,7 @@ use Rattle.nir_host.specs.Whole.{TakesFront}
 use Rattle.nir_ir.specs.Shader as ir
 use Rattle.rule_term.specs.Table.{Table}
 use Rattle.nir_mean.specs.ShaderText.{ReadsToEnd}
-use Rattle.nir_opt.specs.declared.optimise.Work.{Work}
+use Rattle.nir_opt.specs.declared.optimise.Printed.{Printed}
 use Rattle.nir_opt.specs.declared.status.Report.{Report}
 use Rattle.nir_opt.specs.declared.status.Status.{Status}
 use Rattle.nir_opt.specs.declared.status.Status.TheVariants.{Usage, WriteFault}
@@ -16,24 +16,24 @@ use Rattle.nir_opt.specs.Answers.{AreAccepted, has_reading, shader_answer}
 use Rattle.nir_opt.specs.FirstRules.{first_rules}
 use Rattle.nir_opt.specs.Ran.{Ran, ReadFaults, Reading, WriteFaults, Writing}
 use Rattle.nir_opt.specs.Texts.{IsTableOf}
-use Rattle.nir_opt.specs.Work.{PrintsWork, worked, Writes}
+use Rattle.nir_opt.specs.Printed.{PrintsLast, reported, Writes}
 use Rattle.nir_opt.proofs.Stops.{table_accepted, Tells}
 
 -- what is known of a run whose text is built
-pub record Prints (given_words : List (List ℕ)) (rules shader : Reading) (work : Work) : Type 0 where
+pub record Prints (given_words : List (List ℕ)) (rules shader : Reading) (printed : Printed) : Type 0 where
   pub reads : has_reading given_words ≡ true
   pub accepted : (text : List ℕ) → rules.left_before ≡ Some text → AreAccepted (first_rules text)
   pub built : (text : List ℕ) → shader.left_before ≡ Some text → IsOk (shader_answer text)
   pub rules_end : ReadsToEnd rules.left_before rules.left_after
   pub shader_end : ReadsToEnd shader.left_before shader.left_after
-  pub prints : (rule_text shader_text : List ℕ) → rules.left_before ≡ Some rule_text → shader.left_before ≡ Some shader_text → PrintsWork rule_text shader_text work
+  pub prints : (rule_text shader_text : List ℕ) → rules.left_before ≡ Some rule_text → shader.left_before ≡ Some shader_text → PrintsLast rule_text shader_text printed
 
-pub prints : (given_words : List (List ℕ)) (rules shader : Reading) (table : Table) (read : ir.Shader) (work : Work) → has_reading given_words ≡ true
+pub prints : (given_words : List (List ℕ)) (rules shader : Reading) (table : Table) (read : ir.Shader) (printed : Printed) → has_reading given_words ≡ true
     → ((text : List ℕ) → rules.left_before ≡ Some text → IsTableOf (first_rules text) table) → ((text : List ℕ) → shader.left_before ≡ Some text → shader_answer text ≡ Ok read)
     → ReadsToEnd rules.left_before rules.left_after → ReadsToEnd shader.left_before shader.left_after
-    → ((rule_text shader_text : List ℕ) → IsTableOf (first_rules rule_text) table → shader_answer shader_text ≡ Ok read → PrintsWork rule_text shader_text work)
-    → Prints given_words rules shader work
-prints given_words rules shader table read work reads tabled found rules_end shader_end done = record {
+    → ((rule_text shader_text : List ℕ) → IsTableOf (first_rules rule_text) table → shader_answer shader_text ≡ Ok read → PrintsLast rule_text shader_text printed)
+    → Prints given_words rules shader printed
+prints given_words rules shader table read printed reads tabled found rules_end shader_end done = record {
   reads = reads;
   accepted = λ text told. table_accepted (first_rules text) table (tabled text told);
   built = λ text told. subst IsOk (sym (found text told)) refl;
@@ -42,9 +42,9 @@ prints given_words rules shader table read work reads tabled found rules_end sha
   prints = λ rule_text shader_text rules_told shader_told. done rule_text shader_text (tabled rule_text rules_told) (found shader_text shader_told);
 }
 
-ended_whole : (given_words : List (List ℕ)) (rules shader : Reading) (out lines : Writing) (work : Work) → Prints given_words rules shader work
-    → Gains out.taken_before out.taken_after work.text → Tells lines status.Ok → Ran given_words rules shader out lines (worked status.Ok work)
-ended_whole given_words rules shader out lines work run gains told = record {
+ended_whole : (given_words : List (List ℕ)) (rules shader : Reading) (out lines : Writing) (printed : Printed) → Prints given_words rules shader printed
+    → Gains out.taken_before out.taken_after printed.text → Tells lines status.Ok → Ran given_words rules shader out lines (reported status.Ok printed)
+ended_whole given_words rules shader out lines printed run gains told = record {
   words = (λ is. absurd (cc), λ none. absurd (true≢false (sym run.reads ∙ none)));
   rules_text = run.accepted;
   shader_text = run.built;
@@ -68,10 +68,10 @@ ended_whole given_words rules shader out lines work run gains told = record {
   place = refl;
 }
 
-ended_short : (given_words : List (List ℕ)) (rules shader : Reading) (out lines : Writing) (work : Work) → Prints given_words rules shader work
-    → WriteFaults out → ((taken : List ℕ) → out.taken_before ≡ Some taken → TakesFront taken out.taken_after work.text) → Tells lines WriteFault
-    → Ran given_words rules shader out lines (worked WriteFault work)
-ended_short given_words rules shader out lines work run fault front told = record {
+ended_short : (given_words : List (List ℕ)) (rules shader : Reading) (out lines : Writing) (printed : Printed) → Prints given_words rules shader printed
+    → WriteFaults out → ((taken : List ℕ) → out.taken_before ≡ Some taken → TakesFront taken out.taken_after printed.text) → Tells lines WriteFault
+    → Ran given_words rules shader out lines (reported WriteFault printed)
+ended_short given_words rules shader out lines printed run fault front told = record {
   words = (λ is. absurd (cc), λ none. absurd (true≢false (sym run.reads ∙ none)));
   rules_text = run.accepted;
   shader_text = run.built;
@@ -95,14 +95,14 @@ ended_short given_words rules shader out lines work run fault front told = recor
   place = refl;
 }
 
--- the report is that of the work, with the status of the writing
-pub ran_to_end : (given_words : List (List ℕ)) (rules shader : Reading) (out lines : Writing) (work : Work) (report : Report) → Prints given_words rules shader work
-    → report ≡ worked report.status work → Writes report.status work.text out.taken_before out.taken_after out.faults_before out.faults_after → Tells lines report.status
+-- the report is that of the text, with the status of the writing
+pub ran_to_end : (given_words : List (List ℕ)) (rules shader : Reading) (out lines : Writing) (printed : Printed) (report : Report) → Prints given_words rules shader printed
+    → report ≡ reported report.status printed → Writes report.status printed.text out.taken_before out.taken_after out.faults_before out.faults_after → Tells lines report.status
     → Ran given_words rules shader out lines report
-ran_to_end given_words rules shader out lines work report run is writes told =
+ran_to_end given_words rules shader out lines printed report run is writes told =
     let P : Report → Type 0 = Ran given_words rules shader out lines in
-    let with_status : (s : Status) → report.status ≡ s → P (worked s work) → P report = λ s same kept. subst P (sym (is ∙ ap (λ (t : Status). worked t work) same)) kept in
+    let with_status : (s : Status) → report.status ≡ s → P (reported s printed) → P report = λ s same kept. subst P (sym (is ∙ ap (λ (t : Status). reported t printed) same)) kept in
     elim writes [
-      | inl whole ↦ with_status status.Ok whole.0 (ended_whole given_words rules shader out lines work run whole.1 (subst (Tells lines) whole.0 told))
-      | inr short ↦ with_status WriteFault short.0 (ended_short given_words rules shader out lines work run short.1 short.2 (subst (Tells lines) short.0 told))
+      | inl whole ↦ with_status status.Ok whole.0 (ended_whole given_words rules shader out lines printed run whole.1 (subst (Tells lines) whole.0 told))
+      | inr short ↦ with_status WriteFault short.0 (ended_short given_words rules shader out lines printed run short.1 short.2 (subst (Tells lines) short.0 told))
     ]

@@ -1,5 +1,4 @@
 pub mod TextAnswers
-pub mod OneBlock
 pub mod RuleForms
 pub mod RunLemmas
 pub mod Stops

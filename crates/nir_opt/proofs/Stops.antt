@@ -18,7 +18,7 @@ use Rattle.nir_opt.specs.Answers.{AreAccepted, EndsWell, has_reading, is_of_rule
 use Rattle.nir_opt.specs.FirstRules.{first_rules}
 use Rattle.nir_opt.specs.Ran.{Ran, ReadFaults, Reading, WriteFaults, Writing}
 use Rattle.nir_opt.specs.Texts.{EndsRules, EndsShader, IsTableOf}
-use Rattle.nir_opt.specs.Work.{idle}
+use Rattle.nir_opt.specs.Printed.{idle}
 
 -- a status with which reading the rules may end
 record OfRules (ending : Status) (fault : Type 0) : Type 0 where
@@ -40,8 +40,7 @@ of_rules (ShaderSyntax of_text) fault ends = absurd ends
 of_rules (ShaderInvalid rule item) fault ends = absurd ends
 of_rules (status.TooLong which) fault ends = absurd ends
 of_rules OutOfMemory fault ends = record { shader = λ _. tt; well = λ _ _ _ _. tt }
-of_rules (NotBuilt Rules) fault ends = record { shader = λ _. tt; well = λ _ built none accepted. subst AreAccepted none accepted }
-of_rules (NotBuilt Shader) fault ends = absurd ends
+of_rules NotBuilt fault ends = record { shader = λ _. tt; well = λ _ built none accepted. subst AreAccepted none accepted }
 
 -- a status with which reading the shader may end
 record OfShader (ending : Status) (fault : Type 0) : Type 0 where
@@ -65,8 +64,7 @@ of_shader (ShaderInvalid rule item) fault ends = record { rules = λ _ accepted.
 of_shader (status.TooLong Rules) fault ends = absurd ends
 of_shader (status.TooLong Shader) fault ends = record { rules = λ _ accepted. accepted; later = refl; well = λ _. refuses (status.TooLong Shader) }
 of_shader OutOfMemory fault ends = record { rules = λ _ _. tt; later = refl; well = λ _ _ _ _. tt }
-of_shader (NotBuilt Rules) fault ends = absurd ends
-of_shader (NotBuilt Shader) fault ends = record { rules = λ _ accepted. accepted; later = refl; well = λ _. refuses (NotBuilt Shader) }
+of_shader NotBuilt fault ends = absurd ends
 
 -- what is known of a run that stopped with this status before it wrote
 record Stops (given_words : List (List ℕ)) (rules shader : Reading) (ending : Status) : Type 0 where

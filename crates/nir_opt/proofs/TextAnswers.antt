@@ -1,4 +1,4 @@
--- What is answered on a text by its length, its fault, the rule that its shader breaks, or its form.
+-- What is answered on a text by its length, its fault, the rule that its shader breaks, or its shader.
 use Rattle.std.proofs.Common.{◌≡◌, ℕ, ◌<◌, List, ◌++◌, length, None, Some, refl, sym, ap, ◌∙◌, arith, length-append}
 use Rattle.std.specs.Prelude.{Bool, true, false, Result, Ok, Err, OnOk, if◌then◌else◌}
 use Rattle.std.proofs.lemmas.Bool.{lt-leb}
@@ -8,9 +8,8 @@ use Rattle.nir_ir.specs.Shader.{Shader}
 use Rattle.nir_text.specs.declared.fault.TextFault.{TextFault}
 use Rattle.nir_mean.specs.ShaderText.{Faulty, Invalid, Sound, answer_of}
 use Rattle.nir_mean.specs.ShaderText as answer
-use Rattle.nir_opt.specs.declared.status.Status.TheVariants.{ShaderSyntax, ShaderInvalid, TooLong, NotBuilt}
+use Rattle.nir_opt.specs.declared.status.Status.TheVariants.{ShaderSyntax, ShaderInvalid, TooLong}
 use Rattle.nir_opt.specs.Answers.{answer_on, shader_answer}
-use Rattle.nir_opt.specs.FirstForm.{is_of_first_form}
 use Rattle.nir_opt.specs.FirstRules.{first_rules}
 
 pub first_rules-long : (text : List ℕ) → 65536 < length text → first_rules text ≡ None
@@ -28,29 +27,16 @@ on_ok A B fact (Err fault) holds = tt
 
 pub answer_long : (text : List ℕ) → answer_of text ≡ answer.TooLong → shader_answer text ≡ Err (TooLong which.Shader)
 unfolding shader_answer
-answer_long text is = ap (answer_on text) is
+answer_long text is = ap answer_on is
 
 pub answer_fault : (text : List ℕ) (fault : TextFault) → answer_of text ≡ Faulty fault → shader_answer text ≡ Err (ShaderSyntax fault)
 unfolding shader_answer
-answer_fault text fault is = ap (answer_on text) is
+answer_fault text fault is = ap answer_on is
 
 pub answer_invalid : (text : List ℕ) (rule item : ℕ) → answer_of text ≡ Invalid rule item → shader_answer text ≡ Err (ShaderInvalid rule item)
 unfolding shader_answer
-answer_invalid text rule item is = ap (answer_on text) is
+answer_invalid text rule item is = ap answer_on is
 
--- by the test of the form
-built_is : (form : Bool) (read found : Shader) → Some found ≡ (if form then Some read else None) → (if form then Ok read else Err (NotBuilt which.Shader)) ≡ Ok found
-built_is true read found h = ap Ok (sym (same_Some found read h))
-built_is false read found h = absurd (none-some found (sym h))
-
-other_is : (form : Bool) (read : Shader) → None ≡ (if form then Some read else None) → (if form then Ok read else Err (NotBuilt which.Shader)) ≡ Err (NotBuilt which.Shader)
-other_is true read h = absurd (none-some read h)
-other_is false read h = refl
-
-pub answer_built : (text : List ℕ) (read found : Shader) → answer_of text ≡ Sound read → Some found ≡ (if is_of_first_form text read then Some read else None) → shader_answer text ≡ Ok found
+pub answer_sound : (text : List ℕ) (read : Shader) → answer_of text ≡ Sound read → shader_answer text ≡ Ok read
 unfolding shader_answer
-answer_built text read found is form = ap (answer_on text) is ∙ built_is (is_of_first_form text read) read found form
-
-pub answer_other : (text : List ℕ) (read : Shader) → answer_of text ≡ Sound read → None ≡ (if is_of_first_form text read then Some read else None) → shader_answer text ≡ Err (NotBuilt which.Shader)
-unfolding shader_answer
-answer_other text read is form = ap (answer_on text) is ∙ other_is (is_of_first_form text read) read form
+answer_sound text read is = ap answer_on is

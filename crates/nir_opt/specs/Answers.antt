@@ -1,5 +1,5 @@
 -- What each status says of the words, of the texts of the two sources, and which line it writes.
-use Rattle.std.specs.Prelude.{◌≡◌, ℕ, Bool, true, false, not, ◌++◌, List, [], ◌∷◌, codes, decimal, IsOk, Option, Some, None, Result, Ok, Err, nat_eq, if◌then◌else◌, ⊤, ◌⊎◌}
+use Rattle.std.specs.Prelude.{◌≡◌, ℕ, Bool, true, false, not, ◌++◌, List, [], ◌∷◌, codes, decimal, IsOk, Option, Some, None, Result, Ok, Err, nat_eq, ⊤, ◌⊎◌}
 use Rattle.std.specs.List.{starts_with}
 use Rattle.nir_host.specs.declared.fault.Which.TheVariants.{Rules, Shader}
 use Rattle.nir_ir.specs.Shader as ir
@@ -16,7 +16,6 @@ use Rattle.nir_mean.specs.ShaderText as answer
 use Rattle.nir_opt.specs.declared.status.Status.{Status}
 use Rattle.nir_opt.specs.declared.status.Status.TheVariants.{Usage, ReadFault, WriteFault, RuleRefused, ShaderSyntax, ShaderInvalid, NotBuilt, OutOfMemory}
 use Rattle.nir_opt.specs.declared.status.Status.TheVariants as status
-use Rattle.nir_opt.specs.FirstForm.{is_of_first_form}
 
 -- one word, that does not begin with `--`
 abbrev pub has_reading : List (List ℕ) → Bool
@@ -34,7 +33,7 @@ number_of (ShaderSyntax fault) = 7
 number_of (ShaderInvalid rule item) = 8
 number_of (status.TooLong which) = 9
 number_of OutOfMemory = 10
-number_of (NotBuilt which) = 12
+number_of NotBuilt = 12
 
 -- the place of a syntax fault, else 0
 abbrev pub place_of : Status → ℕ
@@ -47,7 +46,7 @@ place_of (ShaderSyntax fault) = fault_place fault
 place_of (ShaderInvalid rule item) = 0
 place_of (status.TooLong which) = 0
 place_of OutOfMemory = 0
-place_of (NotBuilt which) = 0
+place_of NotBuilt = 0
 
 -- the rules of a file are accepted, or this is the first that is not; no file is neither
 abbrev pub AreAccepted : Option RuleFile → Type 0
@@ -71,21 +70,20 @@ RulesFit (ShaderInvalid rule item) file = AreAccepted file
 RulesFit (status.TooLong Rules) file = ⊥
 RulesFit (status.TooLong Shader) file = AreAccepted file
 RulesFit OutOfMemory file = ⊤
-RulesFit (NotBuilt Rules) file = file ≡ None
-RulesFit (NotBuilt Shader) file = AreAccepted file
+RulesFit NotBuilt file = file ≡ None
 
 -- what becomes of a text that holds a valid shader or not
-abbrev pub answer_on : List ℕ → Answer → Result ir.Shader Status
-answer_on text answer.TooLong = Err (status.TooLong Shader)
-answer_on text (Faulty fault) = Err (ShaderSyntax fault)
-answer_on text (Invalid rule item) = Err (ShaderInvalid rule item)
-answer_on text (Sound shader) = if is_of_first_form text shader then Ok shader else Err (NotBuilt Shader)
+abbrev pub answer_on : Answer → Result ir.Shader Status
+answer_on answer.TooLong = Err (status.TooLong Shader)
+answer_on (Faulty fault) = Err (ShaderSyntax fault)
+answer_on (Invalid rule item) = Err (ShaderInvalid rule item)
+answer_on (Sound shader) = Ok shader
 
--- the shader of a shader text that is built, or the status for every other text
+-- the valid shader of a shader text, or the status for every other text
 unfoldable pub shader_answer : List ℕ → Result ir.Shader Status
-shader_answer text = answer_on text (answer_of text)
+shader_answer text = answer_on (answer_of text)
 
--- and this of the shader text: it is built, or the status is the one for it, or nothing
+-- and this of the shader text: it has a valid shader, or the status is the one for it, or nothing
 abbrev pub ShaderFits : Status → Result ir.Shader Status → Type 0
 ShaderFits status.Ok answer = IsOk answer
 ShaderFits Usage answer = ⊤
@@ -97,8 +95,7 @@ ShaderFits (ShaderInvalid rule item) answer = answer ≡ Err (ShaderInvalid rule
 ShaderFits (status.TooLong Rules) answer = ⊤
 ShaderFits (status.TooLong Shader) answer = answer ≡ Err (status.TooLong Shader)
 ShaderFits OutOfMemory answer = ⊤
-ShaderFits (NotBuilt Rules) answer = ⊤
-ShaderFits (NotBuilt Shader) answer = answer ≡ Err (NotBuilt Shader)
+ShaderFits NotBuilt answer = ⊤
 
 -- a status that was found before the shader was read
 abbrev pub is_of_rules : Status → Bool
@@ -113,8 +110,7 @@ is_of_rules (ShaderInvalid rule item) = false
 is_of_rules (status.TooLong Rules) = true
 is_of_rules (status.TooLong Shader) = false
 is_of_rules OutOfMemory = false
-is_of_rules (NotBuilt Rules) = true
-is_of_rules (NotBuilt Shader) = false
+is_of_rules NotBuilt = true
 
 -- the whole text was taken, or there was no memory
 abbrev pub EndsWell : Status → Type 0
@@ -127,7 +123,7 @@ EndsWell (ShaderSyntax fault) = ⊥
 EndsWell (ShaderInvalid rule item) = ⊥
 EndsWell (status.TooLong which) = ⊥
 EndsWell OutOfMemory = ⊤
-EndsWell (NotBuilt which) = ⊥
+EndsWell NotBuilt = ⊥
 
 abbrev pub at_values : List ℕ → List ℕ
 at_values [] = []
@@ -156,7 +152,7 @@ line_of (ShaderSyntax fault) = syntax_line fault
 line_of (ShaderInvalid rule item) = invalid_line rule item
 line_of (status.TooLong which) = codes "too long: " ++ which_text which ++ codes "\n"
 line_of OutOfMemory = codes "out of memory\n"
-line_of (NotBuilt which) = codes "not built: " ++ which_text which ++ codes "\n"
+line_of NotBuilt = codes "not built: rules\n"
 
 -- a status whose line is one of a few
 abbrev pub has_plain_line : Status → Bool
@@ -169,7 +165,7 @@ has_plain_line (ShaderSyntax fault) = false
 has_plain_line (ShaderInvalid rule item) = false
 has_plain_line (status.TooLong which) = true
 has_plain_line OutOfMemory = true
-has_plain_line (NotBuilt which) = true
+has_plain_line NotBuilt = true
 
 -- the line of a status: built, or one of a few
 abbrev pub IsLine : Option (List ℕ) → Status → Type 0

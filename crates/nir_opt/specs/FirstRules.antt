@@ -1,8 +1,8 @@
 -- The rule texts that are built so far: at most 16 rules on words of 8 bits, of one to three opcodes that a variable or a number replaces, each tried on all values.
-use Rattle.std.specs.Prelude.{ℕ, Bool, true, not, ◌&&◌, List, length, Option, Some, None, nat_le, is_none, if◌then◌else◌}
+use Rattle.std.specs.Prelude.{ℕ, Bool, true, false, not, ◌&&◌, List, length, Option, Some, None, nat_le, is_none, if◌then◌else◌}
 use Rattle.std.specs.List.{list_all}
 use Rattle.nir_ops.specs.declared.op.Op.{Op}
-use Rattle.rule_term.specs.Formed.{is_mov}
+use Rattle.nir_ops.specs.declared.op.Op.TheVariants.{Iadd, Isub, Imul, Ineg, Inot, Iand, Ior, Ixor, Umin}
 use Rattle.rule_term.specs.Pieces.{Piece, VarPiece, LitPiece, AppPiece, ops_of, pieces}
 use Rattle.rule_term.specs.Rule.{Rule}
 use Rattle.rule_term.specs.Terms.{Terms}
@@ -11,14 +11,22 @@ use Rattle.rule_read.specs.RuleFile.{RuleFile}
 use Rattle.rule_read.specs.Rules.{read_file}
 use Rattle.rule_check.specs.Accepted.{is_tried, stands_at_eight}
 use Rattle.nir_search.specs.Built.{is_leaf}
-use Rattle.nir_opt.specs.FirstForm.{is_first_op}
 
 abbrev pub is_from_to : ℕ → ℕ → ℕ → Bool
 is_from_to least most n = nat_le least n && nat_le n most
 
--- an opcode of the shaders that are built, but no move
+-- sums and products, the bitwise opcodes, and the unsigned minimum
 abbrev pub is_rule_op : Op → Bool
-is_rule_op op = not (is_mov op) && is_first_op op
+is_rule_op Iadd = true
+is_rule_op Isub = true
+is_rule_op Imul = true
+is_rule_op Ineg = true
+is_rule_op Inot = true
+is_rule_op Iand = true
+is_rule_op Ior = true
+is_rule_op Ixor = true
+is_rule_op Umin = true
+is_rule_op _ = false
 
 -- a variable of which nothing is asked but a size, a number, or one of those opcodes
 abbrev pub is_first_piece : Piece → Bool

@@ -14,7 +14,7 @@ use Rattle.nir_opt.specs.declared.status.Report.{Report}
 use Rattle.nir_opt.specs.declared.status.Status.TheVariants as status
 use Rattle.nir_opt.specs.Answers.{AreAccepted, EndsWell, is_of_rules, has_reading, place_of, RulesFit, ShaderFits, line_of, shader_answer}
 use Rattle.nir_opt.specs.FirstRules.{first_rules}
-use Rattle.nir_opt.specs.Work.{IsWork}
+use Rattle.nir_opt.specs.Printed.{IsPrinted}
 
 -- a source before a call and after it: the bytes that it has left, where it tells them, and its count of faults
 pub record Reading : Type 0 where
@@ -55,10 +55,10 @@ pub record Ran (given_words : List (List ℕ)) (rules shader : Reading) (out lin
   pub shader_end : report.status ≡ status.Ok → ReadsToEnd shader.left_before shader.left_after
   pub untouched : report.status ≢ status.Ok → report.status ≢ status.WriteFault → out.taken_after ≡ out.taken_before
   pub printed : report.status ≡ status.Ok → (rule_text shader_text : List ℕ) → rules.left_before ≡ Some rule_text → shader.left_before ≡ Some shader_text
-      → (last : Shader) × IsWork rule_text shader_text report.journal report.rewrites report.limit last × Gains out.taken_before out.taken_after (text_of last)
+      → (last : Shader) × IsPrinted rule_text shader_text report.journal report.rewrites report.limit last × Gains out.taken_before out.taken_after (text_of last)
   pub prefix : report.status ≡ status.WriteFault → (rule_text shader_text : List ℕ) → rules.left_before ≡ Some rule_text → shader.left_before ≡ Some shader_text
       → (before : List ℕ) → out.taken_before ≡ Some before
-      → (last : Shader) × IsWork rule_text shader_text report.journal report.rewrites report.limit last × TakesFront before out.taken_after (text_of last)
+      → (last : Shader) × IsPrinted rule_text shader_text report.journal report.rewrites report.limit last × TakesFront before out.taken_after (text_of last)
   pub notes : TakesLine lines.taken_before lines.taken_after lines.faults_before lines.faults_after (line_of report.status)
   pub idle : report.status ≢ status.Ok → report.status ≢ status.WriteFault → (report.journal ≡ []) × (report.rewrites ≡ 0) × (report.limit ≡ 0)
   pub stopped : report.stopped ≡ false

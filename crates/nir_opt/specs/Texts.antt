@@ -6,7 +6,6 @@ use Rattle.rule_check.specs.Accepted.{rules_of}
 use Rattle.rule_read.specs.RuleFile.{RuleFile}
 use Rattle.rule_term.specs.Table.{Table}
 use Rattle.nir_mean.specs.Faults.{is_of_text}
-use Rattle.nir_opt.specs.declared.first_form.Built.{Built}
 use Rattle.nir_opt.specs.declared.status.Status.{Status}
 use Rattle.nir_opt.specs.declared.status.Status.TheVariants.{Usage, ReadFault, WriteFault, RuleRefused, ShaderSyntax, ShaderInvalid, NotBuilt, OutOfMemory}
 use Rattle.nir_opt.specs.declared.status.Status.TheVariants as status
@@ -25,9 +24,9 @@ TableFits (Ok table) built = IsTableOf built table
 TableFits (Err status) built = RulesFit status built
 
 -- a shader text has this shader, or is as the status says
-abbrev pub BuiltFits : Result Built Status → Result ir.Shader Status → Type 0
-BuiltFits (Ok built) answer = answer ≡ Ok built.shader
-BuiltFits (Err status) answer = ShaderFits status answer
+abbrev pub ReadFits : Result ir.Shader Status → Result ir.Shader Status → Type 0
+ReadFits (Ok shader) answer = answer ≡ Ok shader
+ReadFits (Err status) answer = ShaderFits status answer
 
 -- reading the rules may end with this status; where that is a fault of their source, this holds
 abbrev pub EndsRules : Status → Type 0 → Type 0
@@ -41,8 +40,7 @@ EndsRules (ShaderSyntax of_text) fault = ⊥
 EndsRules (ShaderInvalid rule item) fault = ⊥
 EndsRules (status.TooLong which) fault = ⊥
 EndsRules OutOfMemory fault = ⊤
-EndsRules (NotBuilt Rules) fault = ⊤
-EndsRules (NotBuilt Shader) fault = ⊥
+EndsRules NotBuilt fault = ⊤
 
 -- and reading the shader with this one; a fault that is told of the text is one of the text
 abbrev pub EndsShader : Status → Type 0 → Type 0
@@ -57,5 +55,4 @@ EndsShader (ShaderInvalid rule item) fault = ⊤
 EndsShader (status.TooLong Rules) fault = ⊥
 EndsShader (status.TooLong Shader) fault = ⊤
 EndsShader OutOfMemory fault = ⊤
-EndsShader (NotBuilt Rules) fault = ⊥
-EndsShader (NotBuilt Shader) fault = ⊤
+EndsShader NotBuilt fault = ⊥

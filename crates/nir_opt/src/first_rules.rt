@@ -7,13 +7,15 @@ ghost use Rattle.rule_term.specs.Pieces.{ops_of, pieces};
 ghost use Rattle.rule_term.specs.Terms.{terms_of};
 ghost use Rattle.nir_opt.specs.FirstRules.{are_first_rules, first_rules, is_first_piece, is_first_rule, is_first_search, is_rule_op};
 
-use crate::first_form::{MAX_TEXT, is_first_op};
 use nir_host::OutOfMemory;
 use nir_ops::Op;
 use rule_check::is_ready;
 use rule_read::{RuleFile, read_rules};
 use rule_term::{Rule, Term};
 use std::alloc::Global;
+
+/// How many bytes a rule text may have.
+const MAX_TEXT: usize = 65_536;
 
 /// How many rules a file may have.
 const MAX_RULES: usize = 16;
@@ -27,10 +29,18 @@ const MAX_VARS: u32 = 2;
 fn is_rule_op(op: Op) -> bool
     ensures { result ≡ is_rule_op op }
 {
-    if matches!(op, Op::Mov) {
-        return false;
-    }
-    is_first_op(op)
+    matches!(
+        op,
+        Op::Iadd
+            | Op::Isub
+            | Op::Imul
+            | Op::Ineg
+            | Op::Inot
+            | Op::Iand
+            | Op::Ior
+            | Op::Ixor
+            | Op::Umin
+    )
 }
 
 /// Whether the term is of opcodes that are built, over numbers, and variables of which nothing is asked but a size.

@@ -27,8 +27,7 @@ pub fn plain_line(status: &Status) -> &'static [u8]
         Status::TooLong(Which::Rules) => b"too long: rules\n",
         Status::TooLong(Which::Shader) => b"too long: shader\n",
         Status::OutOfMemory => b"out of memory\n",
-        Status::NotBuilt(Which::Rules) => b"not built: rules\n",
-        Status::NotBuilt(Which::Shader) => b"not built: shader\n",
+        Status::NotBuilt => b"not built: rules\n",
     }
 }
 
@@ -47,7 +46,7 @@ pub fn built_line(alloc: Global, status: &Status) -> Result<Option<Bytes>, OutOf
         | Status::WriteFault
         | Status::TooLong(_)
         | Status::OutOfMemory
-        | Status::NotBuilt(_) => Ok(None),
+        | Status::NotBuilt => Ok(None),
     }
 }
 

@@ -1,7 +1,6 @@
 //! The optimiser of shader texts, `nir_opt RULES < SHADER`, and their evaluator, `nir_opt eval --turns=N < SHADER`.
 #![tactic(auto)]
 
-mod first_form;
 mod first_rules;
 mod lines;
 mod optimise;

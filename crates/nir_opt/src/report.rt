@@ -3,10 +3,10 @@
 ghost use Rattle.std.specs.Prelude.{◌≡◌, true};
 ghost use Rattle.nir_mean.specs.ShaderLines.{TakesLine};
 ghost use Rattle.nir_opt.specs.Answers.{has_plain_line, IsLine, IsToldAs, line_of};
-ghost use Rattle.nir_opt.specs.Work.{Writes, idle, worked};
+ghost use Rattle.nir_opt.specs.Printed.{Writes, idle, reported};
 
 use crate::lines::{built_line, plain_line};
-use crate::optimise::Work;
+use crate::optimise::Printed;
 use crate::status::{Report, Status};
 use nir_host::{Bytes, Sink, write_all};
 use nir_ir::Journal;
@@ -55,7 +55,7 @@ fn note_told<N: Sink>(notes: &mut N, told: &Told)
     }
 }
 
-/// The report of a run that did no work. The line of its status goes to `notes`.
+/// The report of a run that stopped before it had a text. The line of its status goes to `notes`.
 pub fn stopped<N: Sink>(alloc: Global, notes: &mut N, told: Told) -> Report
     requires { IsLine told.built told.status }
     ensures report { result ≡ idle told.status }
@@ -74,19 +74,19 @@ pub fn stopped<N: Sink>(alloc: Global, notes: &mut N, told: Told) -> Report
     }
 }
 
-/// Writes the text of a run that did its work, and reports it. The line of its status goes to `notes`.
-pub fn finished<K: Sink, N: Sink>(out: &mut K, notes: &mut N, work: Work) -> Report
-    ensures report { result ≡ worked result.status work }
-    ensures written { Writes result.status work.text (K.taken out.old) (K.taken out.new) (K.faults out.old) (K.faults out.new) }
+/// Writes the text of a run that came to its end, and reports it. The line of its status goes to `notes`.
+pub fn finished<K: Sink, N: Sink>(out: &mut K, notes: &mut N, printed: Printed) -> Report
+    ensures report { result ≡ reported result.status printed }
+    ensures written { Writes result.status printed.text (K.taken out.old) (K.taken out.new) (K.faults out.old) (K.faults out.new) }
     ensures notes { TakesLine (N.taken notes.old) (N.taken notes.new) (N.faults notes.old) (N.faults notes.new) (line_of result.status) }
 {
-    let status = written(out, work.text.as_slice());
+    let status = written(out, printed.text.as_slice());
     note(notes, plain_line(&status));
     Report {
         status,
-        journal: work.journal,
-        rewrites: work.rewrites,
-        limit: work.limit,
+        journal: printed.journal,
+        rewrites: printed.rewrites,
+        limit: printed.limit,
         stopped: false,
         place: 0,
     }

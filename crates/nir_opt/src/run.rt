@@ -13,9 +13,9 @@ ghost use Rattle.nir_mean.specs.ShaderText.{ReadsToEnd};
 ghost use Rattle.nir_opt.specs.Answers.{AreAccepted, EndsWell, is_of_rules, has_reading, place_of, RulesFit, ShaderFits, line_of, shader_answer};
 ghost use Rattle.nir_opt.specs.FirstRules.{first_rules};
 ghost use Rattle.nir_opt.specs.Ran.{Ran};
-ghost use Rattle.nir_opt.specs.Work.{IsWork};
+ghost use Rattle.nir_opt.specs.Printed.{IsPrinted};
 
-use crate::optimise::printed_work;
+use crate::optimise::printed_last;
 use crate::report::{finished, stopped, with_line};
 use crate::status::{Report, Status};
 use crate::texts::{read_shader_text, read_table};
@@ -30,8 +30,8 @@ use std::sync::ledger::Ledger;
 /// writing at the end.
 ///
 /// The words are RULES alone. The order is fixed: the words; the rules read to their end; the rule
-/// text; the rules checked; the shader read to its end; the shader text; whether the shader is valid; whether it is
-/// built; the rewriting; the writing. Nothing goes to `out` before the text is whole, and want of memory may end the run
+/// text; the rules checked; the shader read to its end; the shader text; whether the shader is valid; the rewriting; the
+/// writing. Nothing goes to `out` before the text is whole, and want of memory may end the run
 /// at any point after the words. The line of the status goes to `notes`, whose faults change nothing. `steps` counts
 /// calls of the matcher.
 pub fn run<R: Source, S: Source, K: Sink, N: Sink, L: Ledger>(
@@ -69,10 +69,10 @@ pub fn run<R: Source, S: Source, K: Sink, N: Sink, L: Ledger>(
     // What was written.
     ensures untouched { result.status ≢ Status.Ok → result.status ≢ Status.WriteFault → K.taken out.new ≡ K.taken out.old }
     ensures printed { result.status ≡ Status.Ok → (rule_text shader_text : List ℕ) → R.left rules.old ≡ Some rule_text → S.left shader.old ≡ Some shader_text →
-        (last : Shader) × IsWork rule_text shader_text result.journal result.rewrites result.limit last × Gains (K.taken out.old) (K.taken out.new) (text_of last) }
+        (last : Shader) × IsPrinted rule_text shader_text result.journal result.rewrites result.limit last × Gains (K.taken out.old) (K.taken out.new) (text_of last) }
     ensures prefix { result.status ≡ Status.WriteFault → (rule_text shader_text : List ℕ) → R.left rules.old ≡ Some rule_text → S.left shader.old ≡ Some shader_text →
         (before : List ℕ) → K.taken out.old ≡ Some before →
-        (last : Shader) × IsWork rule_text shader_text result.journal result.rewrites result.limit last × TakesFront before (K.taken out.new) (text_of last) }
+        (last : Shader) × IsPrinted rule_text shader_text result.journal result.rewrites result.limit last × TakesFront before (K.taken out.new) (text_of last) }
     ensures notes { TakesLine (N.taken notes.old) (N.taken notes.new) (N.faults notes.old) (N.faults notes.new) (line_of result.status) }
 
     // What is reported of the work.
@@ -107,12 +107,12 @@ fn run_in_stages<R: Source, S: Source, K: Sink, N: Sink, L: Ledger>(
         Ok(table) => table,
         Err(status) => return stopped(alloc, notes, with_line(alloc, status)),
     };
-    let built = match read_shader_text(alloc, &table, shader) {
-        Ok(built) => built,
+    let read = match read_shader_text(alloc, shader) {
+        Ok(read) => read,
         Err(status) => return stopped(alloc, notes, with_line(alloc, status)),
     };
-    let Ok(work) = printed_work(alloc, built, &table, steps) else {
+    let Ok(printed) = printed_last(alloc, read, &table, steps) else {
         return stopped(alloc, notes, with_line(alloc, Status::OutOfMemory));
     };
-    finished(out, notes, work)
+    finished(out, notes, printed)
 }

@@ -30,8 +30,8 @@ pub enum Status {
     TooLong(Which),
     /// There was no memory.
     OutOfMemory,
-    /// That text is not of the form that is built; a shader is valid then.
-    NotBuilt(Which),
+    /// The rule text is not of the form that is built.
+    NotBuilt,
 }
 
 impl Status {
@@ -49,7 +49,7 @@ impl Status {
             Status::ShaderInvalid { .. } => 8,
             Status::TooLong(_) => 9,
             Status::OutOfMemory => 10,
-            Status::NotBuilt(_) => 12,
+            Status::NotBuilt => 12,
         }
     }
 
@@ -67,7 +67,7 @@ impl Status {
             | Status::ShaderInvalid { .. }
             | Status::TooLong(_)
             | Status::OutOfMemory
-            | Status::NotBuilt(_) => 0,
+            | Status::NotBuilt => 0,
         }
     }
 }

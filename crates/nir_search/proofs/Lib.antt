@@ -1,4 +1,5 @@
 pub mod MatchLemmas
 pub mod WalkLemmas
+pub mod WeightLemmas
 pub mod ShapedLemmas
 pub mod FirstLemmas

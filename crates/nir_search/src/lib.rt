@@ -15,4 +15,4 @@ pub use first::{first_match, match_rule};
 pub use hit::{Bind, Hit, Subst};
 pub use rule_term::RuleVariant;
 pub use steps::Steps;
-pub use weight::{Census, count_instrs};
+pub use weight::weight_of;

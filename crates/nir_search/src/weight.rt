@@ -1,55 +1,79 @@
-//! How much the instructions of a list weigh.
+//! How much a shader weighs.
 
-ghost use Rattle.std.specs.Prelude.{◌≡◌, ◌≤◌, ◌*◌, length, sum_by};
+ghost use Rattle.std.specs.Prelude.{◌≡◌, ◌≤◌, ◌-◌, ◌*◌, [], ◌∷◌, sum_by};
+ghost use Rattle.nir_ir.specs.Nodes.{nodes_of};
 ghost use Rattle.rule_term.specs.Table.{op_weight};
-ghost use Rattle.nir_search.specs.Weight.{instr_weight, value_count};
+ghost use Rattle.nir_search.specs.Weight.{instr_weight, total, weight_of};
 
-use nir_ir::Instr;
+use nir_ir::{Instr, Node, Shader};
 use rule_term::Table;
 
-/// How many values instructions define, and how much the instructions weigh.
-#[derive(Clone, Copy, Debug, PartialEq, Eq)]
-pub struct Census {
-    pub values: u64,
-    pub weight: u64,
+/// How much no opcode weighs more than.
+const MAX_WEIGHT: u64 = 60;
+
+/// The weights of the opcodes of a shader together, by the weights of a table; at most 60 for each of its numbers.
+/// Linear in the size of the shader.
+pub fn weight_of(table: &Table, shader: &Shader) -> u64
+    ensures value { result ≡ weight_of (op_weight table.now) shader.now }
+    ensures few { result ≤ 60 * shader.now.next_value }
+{
+    let most = MAX_WEIGHT * u64::from(shader.next_value);
+    most - without_list(table, shader.body.as_slice(), most)
 }
 
-/// What one instruction counts, by the weights of a table.
-fn census_of(table: &Table, instr: &Instr) -> Census
-    ensures values { result.values ≡ value_count instr.now }
-    ensures weight { result.weight ≡ instr_weight (op_weight table.now) instr.now }
-    ensures one { result.values ≤ 1 }
-    ensures light { result.weight ≤ 60 * result.values }
+// A sum is kept as what is left of the most that it can be, so that it needs no bound of its own.
+
+/// What is left after one instruction.
+fn without_instr(table: &Table, instr: &Instr, left: u64) -> u64
+    ensures { result ≡ left - instr_weight (op_weight table.now) instr.now }
 {
     match instr {
-        Instr::Alu { op, .. } => Census {
-            values: 1,
-            weight: u64::from(table.weight(*op)),
-        },
-        Instr::Const { .. } | Instr::Undef { .. } | Instr::Input { .. } | Instr::LoadBuf { .. } =>
-            Census {
-                values: 1,
-                weight: 0,
-            },
-        Instr::Output { .. } | Instr::StoreBuf { .. } => Census {
-            values: 0,
-            weight: 0,
-        },
+        Instr::Alu { op, .. } => left.saturating_sub(u64::from(table.weight(*op))),
+        Instr::Const { .. }
+        | Instr::Undef { .. }
+        | Instr::Input { .. }
+        | Instr::Output { .. }
+        | Instr::LoadBuf { .. }
+        | Instr::StoreBuf { .. } => left,
     }
 }
 
-/// The census of a list of instructions, by the weights of a table. A weight is at most 60.
-pub fn count_instrs(table: &Table, instrs: &[Instr]) -> Census
-    ensures values { result.values ≡ sum_by value_count instrs.now }
-    ensures weight { result.weight ≡ sum_by (instr_weight (op_weight table.now)) instrs.now }
-    ensures light { result.weight ≤ 60 * result.values }
+/// What is left after the instructions of a block.
+fn without_instrs(table: &Table, instrs: &[Instr], left: u64) -> u64
+    ensures { result ≡ left - sum_by (instr_weight (op_weight table.now)) instrs.now }
 {
-    let mut values = 0;
-    let mut weight = 0;
+    let mut left = left;
     for instr in instrs {
-        let one = census_of(table, instr);
-        values += one.values;
-        weight += one.weight;
+        left = without_instr(table, instr, left);
     }
-    Census { values, weight }
+    left
+}
+
+/// What is left after a list of nodes.
+#[cycle(weighing)]
+#[tactic(auto, using(crate::proofs::WeightLemmas::total_steps))]
+fn without_list(table: &Table, list: &[Node], left: u64) -> u64
+    ensures { result ≡ left - total (op_weight table.now) (nodes_of list.now) }
+{
+    let mut left = left;
+    for node in list {
+        left = without_node(table, node, left);
+    }
+    left
+}
+
+/// What is left after a node.
+#[cycle(weighing)]
+#[tactic(auto, using(crate::proofs::WeightLemmas::total_steps))]
+fn without_node(table: &Table, node: &Node, left: u64) -> u64
+    ensures { result ≡ left - total (op_weight table.now) (nodes_of (node.now ∷ [])) }
+{
+    match node {
+        Node::Block(block) => without_instrs(table, block.instrs.as_slice(), left),
+        Node::If { yes, no, .. } => {
+            let left = without_list(table, yes.as_slice(), left);
+            without_list(table, no.as_slice(), left)
+        }
+        Node::Loop { body, .. } => without_list(table, body.as_slice(), left),
+    }
 }

@@ -2,6 +2,7 @@ pub mod Edges
 pub mod Walk
 pub mod Rules
 pub mod Valid
+pub mod Kept
 pub mod KindTable
 pub mod Least
 pub mod Passing
@@ -11,7 +12,6 @@ pub mod Typed
 pub mod Fitting
 pub mod TypedLaws
 pub mod Grow
-pub mod OneBlock
 pub mod Alternates
 pub mod Each
 pub mod ByParts

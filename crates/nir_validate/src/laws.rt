@@ -1,7 +1,6 @@
 //! Laws over the definitions of valid shaders. Each function does nothing: its contract is the law.
 
 ghost use Rattle.nir_validate.specs.Grow.{SetsOnlyGrow};
-ghost use Rattle.nir_validate.specs.OneBlock.{OneBlockIsValid};
 ghost use Rattle.nir_validate.specs.TypedLaws.{ValidIsTyped, ValidWhereNone};
 
 /// A shader is valid exactly where no rule is broken.
@@ -18,10 +17,4 @@ pub fn valid_shaders_are_typed()
 /// A value that is defined on every path into a list of nodes is defined on every path out of it.
 pub fn sets_only_grow()
     ensures { SetsOnlyGrow }
-{}
-
-/// A shader of one block is valid exactly where the block has no phi and no jump, and each of its instructions
-/// fits and uses what earlier ones define.
-pub fn one_block_is_valid_by_its_instructions()
-    ensures { OneBlockIsValid }
 {}

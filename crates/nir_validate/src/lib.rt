@@ -16,8 +16,5 @@ mod verdict;
 mod way;
 
 pub use fault::ValidateFault;
-pub use laws::{
-    one_block_is_valid_by_its_instructions, sets_only_grow, valid_shaders_are_typed,
-    valid_where_no_rule_is_broken,
-};
+pub use laws::{sets_only_grow, valid_shaders_are_typed, valid_where_no_rule_is_broken};
 pub use verdict::validate;

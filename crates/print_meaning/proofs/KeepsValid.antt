@@ -9,7 +9,7 @@ use Rattle.nir_ir.specs.Shaped.{IsOneOf, IsShaped}
 use Rattle.nir_ir.specs.Shader.{Shader}
 use Rattle.list_laws.specs.AllLaws.{all_of_map, given_by_each}
 use Rattle.nir_print.specs.Renumber.{Numbers, new_nodes, numbers_of, renumber}
-use Rattle.nir_validate.specs.OneBlock.{VisitKept, none_told, spot_told, visit_told, visits_kept}
+use Rattle.nir_validate.specs.Kept.{VisitKept, none_told, spot_told, visit_told, visits_kept}
 use Rattle.nir_validate.specs.Placing.{order_faults}
 use Rattle.nir_validate.specs.Rules.{Spot, all_misplaced, spots}
 use Rattle.list_laws.specs.AllLaws.{all_each}

@@ -12,7 +12,7 @@ use Rattle.nir_ir.specs.Nodes.{Nodes, Nil, BlockThen, IfThen, LoopThen}
 use Rattle.list_laws.specs.AllLaws.{all_append, all_back, all_front}
 use Rattle.nir_print.specs.Renumber.{Numbers, new_block_node, new_instr, new_nodes, new_phi, new_value}
 use Rattle.nir_validate.specs.Edges.{Edge, Flow, Set, backs, either, meet, out_of_loop, set_after, set_after_instrs, set_after_phis}
-use Rattle.nir_validate.specs.OneBlock.{VisitKept}
+use Rattle.nir_validate.specs.Kept.{VisitKept}
 use Rattle.nir_validate.specs.Walk.{Visit, block_flow, is_empty, is_idle, visit_block, visit_instrs, visit_jump, visit_phis, visits, walk}
 use Rattle.print_meaning.proofs.Apart.{BlockApart, NodesApart, TargetApart}
 use Rattle.print_meaning.proofs.InstrReads.{reads-new_instr}

@@ -29,7 +29,7 @@ use Rattle.nir_ir.specs.Items.{target}
 use Rattle.nir_ir.specs.Shaped.{IsCount, IsShapedInstr, IsSwizzle}
 use Rattle.nir_validate.specs.Each.{InstrsWalked}
 use Rattle.nir_validate.specs.Edges.{Set, set_after, set_after_instrs, with_member}
-use Rattle.nir_validate.specs.OneBlock.{ReadsIn}
+use Rattle.nir_validate.specs.Kept.{ReadsIn}
 use Rattle.nir_validate.specs.Rules.{count_in}
 use Rattle.nir_validate.specs.Typed.{FitsIn, NamesComponents}
 use Rattle.rule_term.specs.declared.cond.Cond.{Cond}

@@ -28,7 +28,7 @@ use Rattle.edit_laws.specs.NumbersLaws.{member_has, one_of-back, one_of-front}
 use Rattle.edit_laws.specs.PlacedLaws.{AreShaped}
 use Rattle.nir_validate.specs.Each.{InstrsWalked}
 use Rattle.nir_validate.specs.Edges.{Set, set_after, with_member}
-use Rattle.nir_validate.specs.OneBlock.{IsRead, ReadsIn}
+use Rattle.nir_validate.specs.Kept.{IsRead, ReadsIn}
 use Rattle.nir_validate.specs.Typed.{InstrFits, ItemFits}
 use Rattle.nir_validate.specs.TypedLaws.{typed-from_valid}
 use Rattle.nir_validate.specs.Valid.{Valid}

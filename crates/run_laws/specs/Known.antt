@@ -14,7 +14,7 @@ use Rattle.nir_ir.specs.Items.{target}
 use Rattle.nir_ir.specs.Shaped.{IsShapedInstr}
 use Rattle.nir_validate.specs.Each.{IsReached, PhiWalked}
 use Rattle.nir_validate.specs.Edges.{Edge, Set, meet, set_after, set_after_phis}
-use Rattle.nir_validate.specs.OneBlock.{ReadsIn}
+use Rattle.nir_validate.specs.Kept.{ReadsIn}
 use Rattle.nir_validate.specs.Rules.{condition_kind}
 use Rattle.nir_validate.specs.Typed.{FitsIn, PhiFits}
 use Rattle.walk_laws.specs.GrownLaws.{IsBelow}

@@ -20,7 +20,7 @@ use Rattle.nir_ir.specs.Found.{found_all}
 use Rattle.nir_ir.specs.Items.{reads, target}
 use Rattle.nir_validate.specs.Each.{IsDefinedAlong}
 use Rattle.nir_validate.specs.Edges.{Edge, Set, meet, set_after, set_after_instrs, set_after_phis, with_member}
-use Rattle.nir_validate.specs.OneBlock.{ReadsIn}
+use Rattle.nir_validate.specs.Kept.{ReadsIn}
 use Rattle.nir_mean.specs.MadeKinds.{KindOf, made_kind, world_holds, zeros_kind}
 use Rattle.nir_mean.specs.Bytes.{BuffersHold}
 use Rattle.nir_mean.specs.Known.{HasKind}

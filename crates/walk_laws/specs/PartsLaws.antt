@@ -3,7 +3,7 @@ use Rattle.std.specs.Prelude.{◌≡◌, ◌↔◌, refl, true, false, List, [],
 use Rattle.std.proofs.Common.{◌∙◌, ap, inr}
 use Rattle.nir_ir.specs.Definitions.{kind_at}
 use Rattle.nir_ir.specs.Shader.{Shader}
-use Rattle.nir_validate.specs.OneBlock.{VisitKept, none_told, spot_told, visit_told, visits_kept}
+use Rattle.nir_validate.specs.Kept.{VisitKept, none_told, spot_told, visit_told, visits_kept}
 use Rattle.nir_validate.specs.Rules.{spots}
 use Rattle.nir_validate.specs.Typed.{NodesFit}
 use Rattle.nir_validate.specs.TypedLaws.{SpotKept, all_kept}

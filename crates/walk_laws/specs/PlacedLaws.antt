@@ -18,7 +18,7 @@ use Rattle.nir_ir.specs.Shaped.{IsShaped}
 use Rattle.nir_ir.specs.Shader.{Shader}
 use Rattle.nir_validate.specs.Each.{BlockDefines, ConditionDefined, Each, InstrsWalked, IsReached}
 use Rattle.nir_validate.specs.Edges.{Edge, Set, backs, either, meet, out_of_loop, set_after, set_after_instrs, set_after_phis, with_member}
-use Rattle.nir_validate.specs.OneBlock.{ReadsIn}
+use Rattle.nir_validate.specs.Kept.{ReadsIn}
 use Rattle.nir_validate.specs.Typed.{InstrFits}
 use Rattle.nir_validate.specs.Valid.{Valid}
 use Rattle.nir_validate.specs.Walk.{block_flow, entry, walk}

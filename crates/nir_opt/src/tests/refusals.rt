@@ -1,7 +1,7 @@
 //! Words and texts that are refused, and sources and sinks that fail.
 
 use super::rewriting::{DIFFER, REWRITTEN};
-use super::texts::{DOT, EMPTY_BLOCK, RULE, SIGNED_LEAST, WIDE};
+use super::texts::{EMPTY_BLOCK, WIDE};
 use super::validity::BROKEN;
 use super::{Case, NO_RULES, PRINTED, REFUSED, Text, all_end, all_end_unheard, uncounted};
 use nir_host::OutOfMemory;
@@ -38,14 +38,7 @@ fn words_without_a_reading_are_refused(rt: HostRuntime) {
     all_end(&rt, rt.alloc(), &USAGE);
 }
 
-/// A shader that is valid and not built.
-const NO_FORM: Case<'static> = Case {
-    number: 12,
-    notes: b"not built: shader\n",
-    ..REFUSED
-};
-
-/// Rules that are not built, before a shader that is not.
+/// Rules that are not built, before a shader at another size.
 const NEITHER: Case<'static> = Case {
     shader: Text::Whole(WIDE),
     ..NO_RULES
@@ -106,32 +99,13 @@ static OTHER_RULES: [Case; 13] = [
     },
 ];
 
-static OTHER_TEXTS: [Case; 5] = [
-    Case {
-        rules: Text::Whole(b"[]]"),
-        ..NO_RULES
-    },
-    Case {
-        shader: Text::Whole(SIGNED_LEAST),
-        ..NO_FORM
-    },
-    Case {
-        rules: Text::Whole(RULE),
-        shader: Text::Whole(WIDE),
-        ..NO_FORM
-    },
-    Case {
-        shader: Text::Whole(WIDE),
-        ..NO_FORM
-    },
-    Case {
-        shader: Text::Whole(DOT),
-        ..NO_FORM
-    },
-];
+static OTHER_TEXTS: [Case; 1] = [Case {
+    rules: Text::Whole(b"[]]"),
+    ..NO_RULES
+}];
 
 #[test]
-fn other_texts_are_not_built(rt: HostRuntime) {
+fn other_rules_are_not_built(rt: HostRuntime) {
     all_end(&rt, rt.alloc(), &OTHER_RULES);
     all_end(&rt, rt.alloc(), &OTHER_TEXTS);
 }
@@ -326,40 +300,20 @@ fn a_front_of_a_shader_text_is_none(rt: HostRuntime) {
 }
 
 /// Blanks behind a shader of 59 bytes.
-static LONG: [Case; 3] = [
-    Case {
-        shader: Text::Repeated {
-            front: EMPTY_BLOCK,
-            piece: b" ",
-            times: 65_477,
-            end: b"",
-        },
-        ..PRINTED
+static LONG: [Case; 1] = [Case {
+    shader: Text::Repeated {
+        front: EMPTY_BLOCK,
+        piece: b" ",
+        times: 4_194_246,
+        end: b"",
     },
-    Case {
-        shader: Text::Repeated {
-            front: EMPTY_BLOCK,
-            piece: b" ",
-            times: 65_478,
-            end: b"",
-        },
-        ..NO_FORM
-    },
-    Case {
-        shader: Text::Repeated {
-            front: EMPTY_BLOCK,
-            piece: b" ",
-            times: 4_194_246,
-            end: b"",
-        },
-        number: 9,
-        notes: b"too long: shader\n",
-        ..REFUSED
-    },
-];
+    number: 9,
+    notes: b"too long: shader\n",
+    ..REFUSED
+}];
 
 #[test]
-fn long_shader_texts_are_not_built(rt: HostRuntime) {
+fn shader_texts_above_4_mib_are_refused(rt: HostRuntime) {
     assert_eq!(rt; EMPTY_BLOCK.len(), 59);
     all_end(&rt, rt.alloc(), &LONG);
 }

@@ -1,9 +1,9 @@
 //! What the optimiser prints, and which rules it refuses.
 
 use super::texts::{
-    ABOVE_127, ADD_ZERO, BELOW_ZERO, BOTH_MOVED, DIFFERENCES, FREE, LEAST, LEAST_MOVED, MOVED,
-    NEGATED, NEGATED_MOVED, OPCODES, PRODUCT, PRODUCT_ZERO, RULE, SWAPPED, TWICE, TWICE_MOVED,
-    WIDE, WRONG, ZERO_THEN_MOVED,
+    ABOVE_127, ADD_ZERO, BELOW_ZERO, BOTH_MOVED, DIFFERENCES, DOT, FREE, LEAST, LEAST_MOVED, MOVED,
+    NEGATED, NEGATED_MOVED, NO_DOT, OPCODES, PRODUCT, PRODUCT_ZERO, RULE, SIGNED_LEAST, SWAPPED,
+    TWICE, TWICE_MOVED, WIDE, WRONG, ZERO_THEN_MOVED,
 };
 use super::{Case, NO_RULES, PRINTED, REFUSED, Text, all_end};
 use crate::lines::refusal_line;
@@ -25,6 +25,8 @@ macro_rules! step {
     };
 }
 
+pub(super) use step;
+
 /// A sum with 0 under the rule that moves it.
 pub(super) const REWRITTEN: Case<'static> = Case {
     rules: Text::Whole(RULE),
@@ -35,7 +37,7 @@ pub(super) const REWRITTEN: Case<'static> = Case {
     ..PRINTED
 };
 
-static FIRST_FORM: [Case; 5] = [
+static PLAIN: [Case; 5] = [
     PRINTED,
     Case {
         shader: Text::Whole(BELOW_ZERO),
@@ -65,8 +67,42 @@ static FIRST_FORM: [Case; 5] = [
 ];
 
 #[test]
-fn shaders_of_the_first_form_are_printed(rt: HostRuntime) {
-    all_end(&rt, rt.alloc(), &FIRST_FORM);
+fn shaders_without_a_match_are_printed(rt: HostRuntime) {
+    all_end(&rt, rt.alloc(), &PLAIN);
+}
+
+static UNTOUCHED: [Case; 4] = [
+    Case {
+        shader: Text::Whole(SIGNED_LEAST),
+        out: SIGNED_LEAST,
+        limit: 4097,
+        ..PRINTED
+    },
+    // a rule at 8 bits over a sum at 32
+    Case {
+        rules: Text::Whole(RULE),
+        shader: Text::Whole(WIDE),
+        out: WIDE,
+        limit: 4097,
+        ..PRINTED
+    },
+    Case {
+        shader: Text::Whole(WIDE),
+        out: WIDE,
+        limit: 4097,
+        ..PRINTED
+    },
+    // all components in order are no swizzle
+    Case {
+        shader: Text::Whole(DOT),
+        out: NO_DOT,
+        ..PRINTED
+    },
+];
+
+#[test]
+fn shaders_of_every_size_are_printed(rt: HostRuntime) {
+    all_end(&rt, rt.alloc(), &UNTOUCHED);
 }
 
 static USED: [Case; 6] = [

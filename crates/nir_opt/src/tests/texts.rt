@@ -57,6 +57,19 @@ buffers 0
 }
 ";
 
+pub(super) const NO_DOT: &[u8] = br"shader
+inputs [w8x1]
+outputs [w8x1]
+buffers 0
+{
+  block b0 {
+    %0 = input w8x1 @0
+    %1 = mov w8x1 %0
+    output @0, %1
+  }
+}
+";
+
 /// The shader at 8 bits with a move of the input in the place of its addition.
 pub(super) const MOVED: &[u8] = br"shader
 inputs [w8x1]

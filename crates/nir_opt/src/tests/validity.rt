@@ -105,8 +105,7 @@ fn broken<'a>(front: &'a [u8], row: &Row<'a>) -> Case<'a> {
     }
 }
 
-/// The text of a row ends a run with the status and the line of the rule that it breaks first, or, where it is valid, is printed or
-/// not built.
+/// The text of a row ends a run with the status and the line of the rule that it breaks first, or, where it is valid, is printed.
 fn is_judged<'a>(
     rt: &impl Abort,
     alloc: Global,
@@ -118,7 +117,7 @@ fn is_judged<'a>(
         return ends(rt, alloc, &case);
     }
     let number = uncounted(alloc, &case)?.ended.number();
-    assert!(rt; number == 0 || number == 12);
+    assert_eq!(rt; number, 0);
     Ok(())
 }
 
@@ -580,7 +579,7 @@ pub(super) static BROKEN: [Case; 6] = [
 ];
 
 #[test]
-fn a_shader_that_is_not_valid_is_refused_before_its_form(rt: HostRuntime) {
+fn texts_that_are_not_valid_are_refused(rt: HostRuntime) {
     assert_eq!(rt; LATE.len(), 108);
     all_end(&rt, rt.alloc(), &BROKEN);
 }

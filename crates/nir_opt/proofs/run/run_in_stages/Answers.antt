@@ -30,5 +30,5 @@ pub returns : goal.returns
 returns g c =
     let reads : has_reading c.args.words.now ≡ true = search rules in
     ran_to_end _ _ _ _ _ _ _
-    (prints _ _ _ c.in-Ok.table c.in-Ok-read_shader_text.built.shader c.in-Ok-printed_work.work reads c.in-Ok.ensures.text c.in-Ok-read_shader_text.ensures.text c.in-Ok.ensures.end c.in-Ok-read_shader_text.ensures.end c.in-Ok-printed_work.ensures)
+    (prints _ _ _ c.in-Ok.table c.in-Ok-read_shader_text.read c.in-Ok-printed_last.printed reads c.in-Ok.ensures.text c.in-Ok-read_shader_text.ensures.text c.in-Ok.ensures.end c.in-Ok-read_shader_text.ensures.end c.in-Ok-printed_last.ensures)
     c.finished.ensures.report c.finished.ensures.written c.finished.ensures.notes

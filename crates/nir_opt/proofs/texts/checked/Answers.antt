@@ -1,7 +1,4 @@
-use Rattle.std.proofs.Common.{◌≡◌, sym, subst, true}
-use Rattle.std.specs.List.{list_all}
-use Rattle.nir_search.specs.Built.{is_built}
-use Rattle.nir_opt.proofs.RunLemmas.{all_built, first_entries}
+use Rattle.nir_opt.proofs.RunLemmas.{first_entries, table_descends}
 use Rattle.nir_opt.proofs.texts.checked.Goals as goal
 
 pub check_file-requires-clause-eight : goal.check_file-requires-clause-eight
@@ -10,7 +7,6 @@ check_file-requires-clause-eight c = (first_entries c.args.file c.requires.form)
 pub check_file-requires-clause-cases : goal.check_file-requires-clause-cases
 check_file-requires-clause-cases c = (first_entries c.args.file c.requires.form).tried
 
-pub returns-in-Ok-clause-built : goal.returns-in-Ok-clause-built
-returns-in-Ok-clause-built c =
-    let form = first_entries c.args.file c.requires.form in
-    subst (λ t. list_all is_built t ≡ true) (sym c.in-Ok.ensures.verdict.1) (all_built c.args.file.entries form.eight form.first)
+pub returns-in-Ok-clause-falls : goal.returns-in-Ok-clause-falls
+returns-in-Ok-clause-falls c =
+    table_descends c.in-Ok.table c.args.file.entries c.in-Ok.ensures.verdict.1 c.in-Ok.ensures.weights c.rules_hold.ensures.formed (first_entries c.args.file c.requires.form).first

@@ -43,7 +43,7 @@ pub fill_term-returns-in-App : goal.fill_term-returns-in-App
 fill_term-returns-in-App t c =
     let fit = knows c.args.known.now in
     let made = least fit (terms_of c.as_slice-in-App.result.now) (map (λ input. size_at input.kind.size c.unwrap_or-free.result) c.as_slice-in-App-2.result.now) in
-    let inputs : c.as_slice-in-App-2.result.now ≡ (op_info c.in-App.op).inputs = c.as_slice-in-App-2.ensures ∙ ap (λ row. row.inputs) c.info-row.ensures in
+    let inputs : c.as_slice-in-App-2.result.now ≡ (op_info c.in-App.op).inputs = c.as_slice-in-App-2.ensures.value ∙ ap (λ row. row.inputs) c.info-row.ensures in
     c.fill_terms.ensures
     ∙ ap (λ l. l ++ made) c.push.ensures.items
     ∙ append_assoc c.args.widths.now.items (c.args.width ∷ []) made
