@@ -147,6 +147,7 @@ pop_sound s frames left frame is sound = sound-front s left frame (subst (λ (li
 pub pop_frame : (s : Shader) (frames left : List Frame) (frame : Frame) → frames ≡ left ++ frame ∷ [] → FramesSound s frames → FrameSound s frame
 pop_frame s frames left frame is sound = sound-last s left frame (subst (λ (list : List Frame). FramesSound s list) is sound)
 
+-- where a continue goes
 pub continues_some : (s : Setting) (frames left : List Frame) (turn : Turn) (from : Option BlockId) (state : State)
     → resumed s frames (Continue from state) ≡ resumed s left (turned s turn.left (nodes_of turn.body.now) (Continue from state))
     → outcome_after s left (turned s turn.left (nodes_of turn.body.now) (Fall from state)) ≡ outcome_after s frames (Continue from state)
