@@ -7,6 +7,8 @@ mod evaluation;
 #[cfg(test)]
 mod every_form;
 #[cfg(test)]
+mod every_size;
+#[cfg(test)]
 mod opcodes;
 #[cfg(test)]
 mod outside;
@@ -34,3 +36,5 @@ mod texts;
 mod tokens;
 #[cfg(test)]
 mod values;
+#[cfg(test)]
+mod works;

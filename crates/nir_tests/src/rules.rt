@@ -15,7 +15,7 @@ use std::test::Fail;
 
 /// A variable that asks for nothing but perhaps its size.
 #[tactic(auto, using(crate::proofs::BuildLemmas::build_steps))]
-fn var(var: u32, size: Option<Width>) -> Term
+pub(crate) fn var(var: u32, size: Option<Width>) -> Term
     ensures { terms_of (result ∷ []) ≡ VarThen var false size None Nil }
 {
     Term::Var {
@@ -27,7 +27,7 @@ fn var(var: u32, size: Option<Width>) -> Term
 }
 
 #[tactic(auto, using(crate::proofs::BuildLemmas::build_steps))]
-fn lit(value: i128) -> Term
+pub(crate) fn lit(value: i128) -> Term
     ensures { terms_of (result ∷ []) ≡ LitThen value false Nil }
 {
     Term::Lit {
@@ -38,7 +38,7 @@ fn lit(value: i128) -> Term
 
 /// An opcode over one term.
 #[tactic(auto, using(crate::proofs::BuildLemmas::build_steps))]
-fn over(alloc: Global, op: Op, source: Term) -> Result<Term, OutOfMemory>
+pub(crate) fn over(alloc: Global, op: Op, source: Term) -> Result<Term, OutOfMemory>
     ensures { IfOk result (λ t. terms_of (t ∷ []) ≡ AppThen op None false (terms_of (source ∷ [])) Nil) }
 {
     let mut args = Seq::new(alloc);
@@ -52,7 +52,7 @@ fn over(alloc: Global, op: Op, source: Term) -> Result<Term, OutOfMemory>
 }
 
 /// An opcode over two terms.
-fn over_two(alloc: Global, op: Op, first: Term, second: Term) -> Result<Term, OutOfMemory>
+pub(crate) fn over_two(alloc: Global, op: Op, first: Term, second: Term) -> Result<Term, OutOfMemory>
     ensures { IfOk result (λ t. terms_of (t ∷ []) ≡ AppThen op None false (then (terms_of (first ∷ [])) (terms_of (second ∷ []))) Nil) }
 {
     let mut args = Seq::new(alloc);

@@ -1,7 +1,10 @@
 //! A shader with each sort of node, and what is found in it; short lists.
 
+use crate::every_form::EVERY_FORM;
 use crate::reading::read;
+use crate::shown_shaders::show_shader;
 use nir_ir::{Comps, Src, Srcs, Swizzle, ValueId};
+use nir_tree::{copied, users};
 use std::test::Fail;
 
 /// A block, an if, a loop and a block. Each block has a phi with an even number that is its own source, and an undef
@@ -61,13 +64,12 @@ fn nothing_is_defined_in_an_empty_shader(rt: HostRuntime) -> Result<(), Fail> {
     let shader = read(rt.alloc(), b"shader inputs [] outputs [] buffers 0 {}")?;
     assert!(rt; shader.instr(ValueId(0)).is_none());
     assert!(rt; shader.phi(ValueId(0)).is_none());
-    assert_eq!(rt; shader.uses(ValueId(0), 9), 0);
-    assert!(rt; !shader.is_used_once(ValueId(0)));
+    assert!(rt; users(rt.alloc(), &shader, ValueId(0))?.is_empty());
     Ok(())
 }
 
 /// Values, and how often they are used.
-static USES: [(u32, u64); 8] = [
+static USES: [(u32, usize); 8] = [
     (0, 2),
     (1, 0),
     (2, 1),
@@ -79,15 +81,21 @@ static USES: [(u32, u64); 8] = [
 ];
 
 #[test]
-fn each_source_and_condition_is_counted(rt: HostRuntime) -> Result<(), Fail> {
+fn each_source_and_condition_is_listed(rt: HostRuntime) -> Result<(), Fail> {
     let shader = read(rt.alloc(), TREE.as_bytes())?;
     for &(value, uses) in &USES {
-        for most in 0..4u64 {
-            let counted = shader.uses(ValueId(value), most);
-            assert_eq!(rt; counted, most.min(uses), "uses of {value} up to {most}");
-        }
-        assert_eq!(rt; shader.is_used_once(ValueId(value)), uses == 1, "{value}");
+        let listed = users(rt.alloc(), &shader, ValueId(value))?;
+        assert_eq!(rt; listed.len(), uses, "uses of {value}");
     }
+    Ok(())
+}
+
+#[test]
+fn a_copy_is_the_same_shader(rt: HostRuntime) -> Result<(), Fail> {
+    let shader = read(rt.alloc(), EVERY_FORM.as_bytes())?;
+    let copy = copied(rt.alloc(), &shader)?;
+    let shown = show_shader(rt.alloc(), &shader)?;
+    assert_eq!(rt; show_shader(rt.alloc(), &copy)?.as_str(), shown.as_str());
     Ok(())
 }
 

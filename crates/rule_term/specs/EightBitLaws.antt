@@ -169,6 +169,23 @@ IsEight-from_is_eight_bit rule h =
     let inner = and_parts _ _ outer.0 in
     record { search = inner.0; replace = inner.1; asked = outer.1 }
 
+-- where all opcodes are without sizes of their own, all nodes of a typing have the size of the root
+pub one_size_typing : (rule : Rule) → IsFormed rule → list_all eight_piece (pieces rule.search) ≡ true → list_all eight_piece (pieces rule.replace) ≡ true → (widths : List Width)
+    → is_typing rule widths ≡ true → widths ≡ replicate (size_of rule.search + size_of rule.replace) (first_of (search_part rule widths))
+one_size_typing rule formed search replace widths typing =
+    let typed = IsTyped-from_is_typing rule widths typing in
+    let whole = typed.count in
+    let long = length-take-le (size_of rule.search) widths (omega arith) in
+    let left = length-drop (size_of rule.search) widths in
+    let width = first_of (search_part rule widths) in
+    let searched : search_part rule widths ≡ replicate (size_of rule.search) width = uniform_term rule.search (search_part rule widths) formed.one_search long search typed.search in
+    let replaced : replace_part rule widths ≡ replicate (size_of rule.replace) (first_of (replace_part rule widths)) = uniform_term rule.replace (replace_part rule widths) formed.one_replace (omega arith) replace typed.replace in
+    let ends = same_width-same width (first_of (replace_part rule widths)) typed.roots in
+    sym (take-append-drop (size_of rule.search) widths)
+    ∙ ap (λ l. l ++ replace_part rule widths) searched
+    ∙ ap (λ l. replicate (size_of rule.search) width ++ l) (replaced ∙ ap (replicate (size_of rule.replace)) (sym ends))
+    ∙ replicate-append-replicate (size_of rule.search) (size_of rule.replace) width
+
 -- 8 bits for each node is the one typing
 pub eight_typing : (rule : Rule) → IsFormed rule → is_eight_bit rule ≡ true → (widths : List Width) → is_typing rule widths ≡ true → widths ≡ all_eight rule
 eight_typing rule formed eight widths typing =
@@ -176,17 +193,10 @@ eight_typing rule formed eight widths typing =
     let typed = IsTyped-from_is_typing rule widths typing in
     let whole = typed.count in
     let long = length-take-le (size_of rule.search) widths (omega arith) in
-    let left = length-drop (size_of rule.search) widths in
     let width = first_of (search_part rule widths) in
     let searched : search_part rule widths ≡ replicate (size_of rule.search) width = uniform_term rule.search (search_part rule widths) formed.one_search long parts.search typed.search in
-    let replaced : replace_part rule widths ≡ replicate (size_of rule.replace) (first_of (replace_part rule widths)) = uniform_term rule.replace (replace_part rule widths) formed.one_replace (omega arith) parts.replace typed.replace in
-    let ends = same_width-same width (first_of (replace_part rule widths)) typed.roots in
     let is_eight_wide = asked rule.search (size_of rule.search) width (omega arith) parts.asked (subst (λ (l : List Width). obeys rule.search l ≡ true) searched typed.search) in
-    sym (take-append-drop (size_of rule.search) widths)
-    ∙ ap (λ l. l ++ replace_part rule widths) searched
-    ∙ ap (λ l. replicate (size_of rule.search) width ++ l) (replaced ∙ ap (replicate (size_of rule.replace)) (sym ends))
-    ∙ replicate-append-replicate (size_of rule.search) (size_of rule.replace) width
-    ∙ ap (replicate (size_of rule.search + size_of rule.replace)) is_eight_wide
+    one_size_typing rule formed parts.search parts.replace widths typing ∙ ap (replicate (size_of rule.search + size_of rule.replace)) is_eight_wide
 
 -- as many roots of the size of all nodes as there are terms
 roots-replicate : (terms : Terms) (n : ℕ) (width : Width) → size_of terms ≤ n → roots terms (replicate n width) ≡ replicate (terms_count terms) width
