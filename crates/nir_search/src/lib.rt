@@ -9,6 +9,7 @@ mod matching;
 mod steps;
 mod view;
 mod weight;
+mod widths;
 mod work;
 
 pub use facts::count_at;
@@ -17,4 +18,5 @@ pub use hit::{Bind, Hit, Subst};
 pub use rule_term::RuleVariant;
 pub use steps::Steps;
 pub use weight::{Census, count_instrs};
+pub use widths::widths_met;
 pub use work::Work;

@@ -4,6 +4,7 @@ pub mod DescendingWorked
 pub mod EightBit
 pub mod EightBitLaws
 pub mod EightBitTypings
+pub mod FewNodes
 pub mod Formed
 pub mod FormedTest
 pub mod FormedWalk
