@@ -1,4 +1,4 @@
--- What a walk along the search side of a rule at 8 bits says of a match.
+-- What a walk along the search side of a rule says of a match.
 use Rattle.std.specs.Prelude.{◌≡◌, refl, ◌+◌, ◌<◌, ◌≤◌, ◌-◌, ℕ, zero, suc, List, [], ◌∷◌, ◌++◌, Option, Some, None, Bool, true, false, ◌&&◌, length, replicate, slice_get, sum_by, if◌then◌else◌}
 use Rattle.std.proofs.Common.{sym, ◌∙◌, ap, subst, drop, take, get_or, zero-add, arith}
 use Rattle.std.proofs.lemmas.List.Sums.{sum_by-append}
@@ -11,29 +11,25 @@ use Rattle.rule_term.specs.declared.term.Term.{Term}
 use Rattle.rule_term.specs.Lists as lists
 use Rattle.rule_term.specs.Terms.{Terms, Nil, VarThen, LitThen, AppThen, terms_of}
 use Rattle.rule_term.specs.Rule.{Rule}
-use Rattle.rule_term.specs.Formed.{IsFormed}
-use Rattle.rule_term.specs.EightBit.{is_eight_bit}
 use Rattle.nir_search.specs.declared.hit.Bind.{Bind}
-use Rattle.nir_search.specs.declared.matching.Walked.{Walked}
 use Rattle.rule_term.specs.Variants.{commutes}
 use Rattle.nir_search.specs.Match.{all_bound, is_typed, match_of, met, root_view}
 use Rattle.rule_term.specs.declared.when.Options.{Options}
 use Rattle.nir_search.specs.declared.hit.Hit.{Hit}
 use Rattle.nir_search.specs.First.{first_variant, hit_of, first_from}
-use Rattle.nir_search.specs.Met.{length-met, is_typed_eight}
 use Rattle.nir_search.specs.Walks.{Walks}
 
--- what is found where a walk ended so
-abbrev pub found_by : Option Walked → List (Option Bind) → Option (List Bind)
-found_by None bound = None
-found_by (Some walked) bound = if walked.eight then Some (all_bound bound) else None
+-- what is found where a walk ended so, and the sizes are those of a typing or not
+abbrev pub found_by : Bool → Option ℕ → List (Option Bind) → Option (List Bind)
+found_by typed None bound = None
+found_by typed (Some left) bound = if typed then Some (all_bound bound) else None
 
 none_either : {A : Type 0} (b : Bool) → ◌≡◌ {A = Option A} (if b then None else None) None
 none_either true = refl
 none_either false = refl
 
 -- the same walk from what is the same
-pub walks_from : (body : Nodes) (terms others : Terms) (bits : ℕ) (view seen : Bind) (before bound after : List (Option Bind)) (result : Option Walked)
+pub walks_from : (body : Nodes) (terms others : Terms) (bits : ℕ) (view seen : Bind) (before bound after : List (Option Bind)) (result : Option ℕ)
     → terms ≡ others → view ≡ seen → before ≡ bound
     → Walks body terms bits (view ∷ []) before result after → Walks body others bits (seen ∷ []) bound result after
 walks_from body terms others bits view seen before bound after result same_terms same_views same_bound walks =
@@ -41,19 +37,15 @@ walks_from body terms others bits view seen before bound after result same_terms
     (subst (λ v. Walks body terms bits (v ∷ []) bound result after) same_views
     (subst (λ b. Walks body terms bits (view ∷ []) b result after) same_bound walks))
 
-pub match_is : (rule : Rule) → IsFormed rule → is_eight_bit rule ≡ true → (variant : ℕ) (body : Nodes) (value : ValueId) (result : Option Walked) (after : List (Option Bind))
+pub match_is : (rule : Rule) (variant : ℕ) (body : Nodes) (value : ValueId) (result : Option ℕ) (after : List (Option Bind))
     → Walks body rule.search variant (root_view body value ∷ []) (replicate rule.vars None) result after
-    → found_by result after ≡ match_of rule variant body value
+    → found_by (is_typed rule (met body rule.search variant (root_view body value ∷ []))) result after ≡ match_of rule variant body value
 unfolding match_of
-match_is rule formed eight variant body value None after walks =
-    let views : List Bind = root_view body value ∷ [] in
-    sym (ap (λ o. if is_typed rule (met body rule.search variant views) then option_map all_bound o else None) walks
-    ∙ none_either (is_typed rule (met body rule.search variant views)))
-match_is rule formed eight variant body value (Some walked) after walks =
-    let views : List Bind = root_view body value ∷ [] in
-    sym (ap (λ o. if is_typed rule (met body rule.search variant views) then option_map all_bound o else None) walks.0
-    ∙ ap (λ b. if b then Some (all_bound after) else None)
-    (is_typed_eight rule formed eight (met body rule.search variant views) (length-met body rule.search variant views) ∙ sym walks.2))
+match_is rule variant body value None after walks =
+    let typed : Bool = is_typed rule (met body rule.search variant (root_view body value ∷ [])) in
+    sym (ap (λ o. if typed then option_map all_bound o else None) walks ∙ none_either typed)
+match_is rule variant body value (Some left) after walks =
+    sym (ap (λ o. if is_typed rule (met body rule.search variant (root_view body value ∷ [])) then option_map all_bound o else None) walks.0)
 
 -- commutative opcodes of one list and then of another
 pub commutes-then : (a b : Terms) → commutes (lists.then a b) ≡ commutes a + commutes b

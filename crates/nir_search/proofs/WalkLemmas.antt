@@ -1,24 +1,24 @@
 -- How a match goes along a list of terms: the first, and then the others.
-use Rattle.op_eval.specs.Calls.{same_width}
 use Rattle.nir_ir.specs.Definitions.{width_at}
-use Rattle.std.specs.Prelude.{◌≡◌, refl, ◌<◌, ◌+◌, ℕ, suc, List, [], ◌∷◌, ◌++◌, Option, Some, None, Bool, true, false, ◌&&◌, length, drop, if◌then◌else◌}
-use Rattle.std.proofs.Common.{sym, ◌∙◌, ap, subst, get_or}
-use Rattle.std.specs.List.{list_all}
-use Rattle.std.specs.Option.{option_and_then}
-use Rattle.std.proofs.lemmas.List.Folds.{list_all-append}
+use Rattle.std.specs.Prelude.{◌≡◌, refl, ◌<◌, ◌≤◌, ◌+◌, ℕ, ℤ, suc, List, [], ◌∷◌, ◌++◌, Option, Some, None, Bool, true, false, length, drop, is_some, if◌then◌else◌}
+use Rattle.std.proofs.Common.{sym, ◌∙◌, ap, subst, get_or, arith}
+use Rattle.std.specs.Option.{option_and_then, option_map}
 use Rattle.std.proofs.Common.{append_assoc, drop-drop}
+use Rattle.std.proofs.lemmas.List.{append-nil}
+use Rattle.nir_ops.specs.declared.op.Op.{Op}
 use Rattle.nir_ops.specs.declared.width.Width.{Width}
-use Rattle.nir_ops.specs.declared.width.Width.TheVariants.{W8}
 use Rattle.nir_ir.specs.Nodes.{Nodes}
 use Rattle.rule_term.specs.declared.term.Term.{Term, Term-F, out-Term, map-Term}
 use Rattle.rule_term.specs.declared.term.Term.TheOpen as layer
+use Rattle.rule_term.specs.declared.term.Term.TheVariants as term
+use Rattle.rule_term.specs.declared.cond.Cond.{Cond}
 use Rattle.rule_term.specs.Terms.{Terms, Nil, VarThen, LitThen, AppThen, before, before_layer, before-out, terms_of}
 use Rattle.rule_term.specs.Lists as lists
 use Rattle.rule_term.specs.Lists.{terms_of-drop, terms_of-var, terms_of-lit, terms_of-app}
 use Rattle.rule_term.specs.Pieces.{terms_count}
-use Rattle.rule_term.specs.Splits.{drop_one, terms_count-terms_of}
+use Rattle.rule_term.specs.Splits.{drop_one, size_of-then, terms_count-terms_of}
+use Rattle.rule_term.specs.Typings.{size_of}
 use Rattle.nir_search.specs.declared.hit.Bind.{Bind}
-use Rattle.nir_search.specs.declared.matching.Walked.{Walked}
 use Rattle.rule_term.specs.Variants.{bits_behind, bits_left, is_swapped}
 use Rattle.nir_search.specs.Match.{matches, met, bind, children, front, is_applied, is_literal, is_taken}
 use Rattle.nir_search.specs.Walks.{Walks}
@@ -84,7 +84,7 @@ met-then body (AppThen op size once args rest) b bits views =
     ∙ sym (append_assoc inner (met body rest behind (drop 1 views)) (met body b (bits_behind rest behind) (drop (suc (terms_count rest)) views))))
 
 -- the same walk along the same terms
-pub walks_along : (body : Nodes) (terms others : Terms) (bits : ℕ) (views : List Bind) (before after : List (Option Bind)) (result : Option Walked)
+pub walks_along : (body : Nodes) (terms others : Terms) (bits : ℕ) (views : List Bind) (before after : List (Option Bind)) (result : Option ℕ)
     → terms ≡ others → Walks body others bits views before result after → Walks body terms bits views before result after
 walks_along body terms others bits views before after result same walks = subst (λ t. Walks body t bits views before result after) (sym same) walks
 
@@ -147,33 +147,85 @@ bits_at list i t bits within at =
     ap (λ terms. bits_behind terms bits) (terms_of-drop list i t within at)
     ∙ bits_behind-then (terms_of (t ∷ [])) (terms_of (drop (i + 1) list)) bits
 
-and_true : (a b c : Bool) → ((a && b) && c) ≡ (a && (b && c))
-and_true true b c = refl
-and_true false b c = refl
+-- what one term meets, and what it leaves of the bits
+pub met_var : (body : Nodes) (t : Term) (var : ℕ) (constant : Bool) (size : Option Width) (cond : Option Cond) (bits : ℕ) (view : Bind) → t ≡ term.Var var constant size cond
+    → met body (terms_of (t ∷ [])) bits (view ∷ []) ≡ width_at body view.value ∷ []
+met_var body t var constant size cond bits view is = ap (λ t. met body (terms_of (t ∷ [])) bits (view ∷ [])) is ∙ ap (λ l. met body l bits (view ∷ [])) (terms_of-var var constant size cond)
+
+pub met_lit : (body : Nodes) (t : Term) (value : ℤ) (boolean : Bool) (bits : ℕ) (view : Bind) → t ≡ term.Lit value boolean
+    → met body (terms_of (t ∷ [])) bits (view ∷ []) ≡ width_at body view.value ∷ []
+met_lit body t value boolean bits view is = ap (λ t. met body (terms_of (t ∷ [])) bits (view ∷ [])) is ∙ ap (λ l. met body l bits (view ∷ [])) (terms_of-lit value boolean)
+
+pub met_app : (body : Nodes) (t : Term) (op : Op) (size : Option Width) (once : Bool) (args : List Term) (bits : ℕ) (view : Bind) → t ≡ term.App op size once args
+    → met body (terms_of (t ∷ [])) bits (view ∷ [])
+    ≡ width_at body view.value ∷ met body (terms_of args) (bits_left op bits) (children body (is_swapped op bits) view)
+met_app body t op size once args bits view is =
+    ap (λ t. met body (terms_of (t ∷ [])) bits (view ∷ [])) is
+    ∙ ap (λ l. met body l bits (view ∷ [])) (terms_of-app op size once args)
+    ∙ cons_same (width_at body view.value) (append-nil (met body (terms_of args) (bits_left op bits) (children body (is_swapped op bits) view)))
+
+pub bits_var : (t : Term) (var : ℕ) (constant : Bool) (size : Option Width) (cond : Option Cond) (bits : ℕ) → t ≡ term.Var var constant size cond → bits_behind (terms_of (t ∷ [])) bits ≡ bits
+bits_var t var constant size cond bits is = ap (λ t. bits_behind (terms_of (t ∷ [])) bits) is ∙ ap (λ l. bits_behind l bits) (terms_of-var var constant size cond)
+
+pub bits_lit : (t : Term) (value : ℤ) (boolean : Bool) (bits : ℕ) → t ≡ term.Lit value boolean → bits_behind (terms_of (t ∷ [])) bits ≡ bits
+bits_lit t value boolean bits is = ap (λ t. bits_behind (terms_of (t ∷ [])) bits) is ∙ ap (λ l. bits_behind l bits) (terms_of-lit value boolean)
+
+pub bits_app : (t : Term) (op : Op) (size : Option Width) (once : Bool) (args : List Term) (bits : ℕ) → t ≡ term.App op size once args
+    → bits_behind (terms_of (t ∷ [])) bits ≡ bits_behind (terms_of args) (bits_left op bits)
+bits_app t op size once args bits is = ap (λ t. bits_behind (terms_of (t ∷ [])) bits) is ∙ ap (λ l. bits_behind l bits) (terms_of-app op size once args)
+
+pub size_app : (t : Term) (op : Op) (size : Option Width) (once : Bool) (args : List Term) → t ≡ term.App op size once args → size_of (terms_of (t ∷ [])) ≡ suc (size_of (terms_of args) + 0)
+size_app t op size once args is = ap (λ t. size_of (terms_of (t ∷ []))) is ∙ ap size_of (terms_of-app op size once args)
+
+-- the sizes met so far, and those that are met behind a term
+pub met_on : (body : Nodes) (list : List Term) (i : ℕ) (t : Term) (view : Bind) (bits left : ℕ) (views : List Bind) (before after : List Width)
+    → i < length list → t ≡ get_or list i t → view ≡ front (drop i views)
+    → left ≡ bits_behind (terms_of (t ∷ [])) bits → after ≡ before ++ met body (terms_of (t ∷ [])) bits (view ∷ [])
+    → after ++ met body (terms_of (drop (i + 1) list)) left (drop (i + 1) views) ≡ before ++ met body (terms_of (drop i list)) bits (drop i views)
+met_on body list i t view bits left views before after within at is same grown =
+    let one : Terms = terms_of (t ∷ []) in
+    let behind : ℕ → List Width = λ b. met body (terms_of (drop (i + 1) list)) b (drop (i + 1) views) in
+    ap (λ l. l ++ behind left) grown
+    ∙ append_assoc before (met body one bits (view ∷ [])) (behind left)
+    ∙ ap (λ l. before ++ l)
+    (ap (λ v. met body one bits (v ∷ []) ++ behind left) is
+    ∙ ap (λ b. met body one bits (front (drop i views) ∷ []) ++ behind b) same
+    ∙ sym (met_at body list i t bits views within at))
+
+-- whether something is there does not depend on how it is seen
+pub some_as : {A B : Type 0} (f : A → B) (o : Option A) → is_some o ≡ is_some (option_map f o)
+some_as f None = refl
+some_as f (Some a) = refl
+
+-- a list of terms has a node for each
+terms_nodes : (terms : Terms) → terms_count terms ≤ size_of terms
+terms_nodes Nil = omega arith
+terms_nodes (VarThen var constant size cond rest) = let more = terms_nodes rest in omega (arith, more)
+terms_nodes (LitThen value boolean rest) = let more = terms_nodes rest in omega (arith, more)
+terms_nodes (AppThen op size once args rest) = let more = terms_nodes rest in omega (arith, more)
+
+pub some_node : (t : Term) → 1 ≤ size_of (terms_of (t ∷ []))
+some_node t = let count = terms_count-terms_of (t ∷ []) in let more = terms_nodes (terms_of (t ∷ [])) in omega (arith, count, more)
+
+pub size_on : (list : List Term) (i : ℕ) (t : Term) → i < length list → t ≡ get_or list i t
+    → size_of (terms_of (drop i list)) ≡ size_of (terms_of (t ∷ [])) + size_of (terms_of (drop (i + 1) list))
+size_on list i t within at = ap size_of (terms_of-drop list i t within at) ∙ size_of-then (terms_of (t ∷ [])) (terms_of (drop (i + 1) list))
 
 -- where the term at a place matches, the match goes on behind it
-pub walk_on : (body : Nodes) (list : List Term) (i : ℕ) (t : Term) (view : Bind) (bits : ℕ) (views : List Bind) (before after : List (Option Bind)) (walked : Walked)
+pub walk_on : (body : Nodes) (list : List Term) (i : ℕ) (t : Term) (view : Bind) (bits : ℕ) (views : List Bind) (before after : List (Option Bind)) (left : ℕ)
     → i < length list → t ≡ get_or list i t → view ≡ front (drop i views)
-    → Walks body (terms_of (t ∷ [])) bits (view ∷ []) before (Some walked) after
-    → (matches body (terms_of (drop (i + 1) list)) walked.bits (drop (i + 1) views) after ≡ matches body (terms_of (drop i list)) bits (drop i views) before)
-    × (bits_behind (terms_of (drop (i + 1) list)) walked.bits ≡ bits_behind (terms_of (drop i list)) bits)
-    × ((eight : Bool) → ((eight && walked.eight) && list_all (same_width W8) (met body (terms_of (drop (i + 1) list)) walked.bits (drop (i + 1) views)))
-    ≡ (eight && list_all (same_width W8) (met body (terms_of (drop i list)) bits (drop i views))))
-walk_on body list i t view bits views before after walked within at is walks =
+    → Walks body (terms_of (t ∷ [])) bits (view ∷ []) before (Some left) after
+    → (matches body (terms_of (drop (i + 1) list)) left (drop (i + 1) views) after ≡ matches body (terms_of (drop i list)) bits (drop i views) before)
+    × (bits_behind (terms_of (drop (i + 1) list)) left ≡ bits_behind (terms_of (drop i list)) bits)
+walk_on body list i t view bits views before after left within at is walks =
     let rest : Terms = terms_of (drop (i + 1) list) in
     let one : Terms = terms_of (t ∷ []) in
     let found : matches body one bits (front (drop i views) ∷ []) before ≡ Some after = ap (λ v. matches body one bits (v ∷ []) before) (sym is) ∙ walks.0 in
-    let left : bits_behind one bits ≡ walked.bits = sym walks.1 in
-    let eights : list_all (same_width W8) (met body one bits (front (drop i views) ∷ [])) ≡ walked.eight = ap (λ v. list_all (same_width W8) (met body one bits (v ∷ []))) (sym is) ∙ sym walks.2 in (
+    let same : bits_behind one bits ≡ left = sym walks.1 in (
       sym (matches_at body list i t bits views before within at
           ∙ ap (option_and_then (matches body rest (bits_behind one bits) (drop (i + 1) views))) found
-          ∙ ap (λ b. matches body rest b (drop (i + 1) views) after) left),
-      sym (bits_at list i t bits within at ∙ ap (bits_behind rest) left),
-      λ eight. sym (ap (λ l. eight && list_all (same_width W8) l) (met_at body list i t bits views within at)
-          ∙ ap (λ b. eight && b) (list_all-append (same_width W8) (met body one bits (front (drop i views) ∷ [])) (met body rest (bits_behind one bits) (drop (i + 1) views)))
-          ∙ ap (λ b. eight && (b && list_all (same_width W8) (met body rest (bits_behind one bits) (drop (i + 1) views)))) eights
-          ∙ ap (λ b. eight && (walked.eight && list_all (same_width W8) (met body rest b (drop (i + 1) views)))) left
-          ∙ sym (and_true eight walked.eight (list_all (same_width W8) (met body rest walked.bits (drop (i + 1) views))))),
+          ∙ ap (λ b. matches body rest b (drop (i + 1) views) after) same),
+      sym (bits_at list i t bits within at ∙ ap (bits_behind rest) same),
     )
 
 -- where it does not, nothing behind it is matched

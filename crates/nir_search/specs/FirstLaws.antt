@@ -1,7 +1,7 @@
 -- What is found first is found by a rule of the table and matches, nothing is found where nothing is found below a bound, and lists of steps one after another.
 use Rattle.std.specs.Prelude.{◌≡◌, refl, ◌<◌, ◌+◌, ℕ, suc, List, [], ◌∷◌, ◌++◌, length, Option, Some, None, Bool, true, is_none, slice_get}
 use Rattle.std.proofs.Common.{◌∙◌, ap, subst, append_assoc, arith}
-use Rattle.std.proofs.lemmas.Bool.{and_from, and_parts}
+use Rattle.std.proofs.lemmas.Bool.{and_from}
 use Rattle.std.proofs.lemmas.List.{length-append}
 use Rattle.std.proofs.lemmas.Option.{none-some, same_Some}
 use Rattle.std.specs.List.{AllByRecursion, list_all, range_with_len}
@@ -13,7 +13,6 @@ use Rattle.nir_ir.specs.Nodes.{Nodes}
 use Rattle.nir_ir.specs.Shader.{Shader}
 use Rattle.nir_ir.specs.Shaped.{IsShaped}
 use Rattle.rule_term.specs.declared.when.Options.{Options}
-use Rattle.rule_term.specs.EightBit.{is_eight_bit}
 use Rattle.rule_term.specs.Options.{when_holds}
 use Rattle.rule_term.specs.Rule.{Rule}
 use Rattle.nir_search.specs.declared.hit.Bind.{Bind}
@@ -22,18 +21,7 @@ use Rattle.nir_search.specs.First.{first_from, first_hit, first_variant, hit_of}
 use Rattle.rule_term.specs.Variants.{variant_count}
 use Rattle.nir_search.specs.Match.{match_of}
 use Rattle.nir_search.specs.Steps.{IsHit, is_settled, replay, step_of}
-use Rattle.nir_search.specs.Built.{is_built, is_leaf}
 use Rattle.list_laws.specs.OptionLaws.{if_some}
-
--- what holds of each that passes a first test
-all_pass : {A : Type 0} (first second : A → Bool) → ((a : A) → first a ≡ true → second a ≡ true) → (list : List A) → list_all first list ≡ true → list_all second list ≡ true
-all_pass first second from [] all = refl
-all_pass first second from (a ∷ list) all =
-    let parts = and_parts (first a) (list_all first list) all in
-    and_from (second a) (list_all second list) (from a parts.0) (all_pass first second from list parts.1)
-
-pub built_eight : (table : List Rule) → list_all is_built table ≡ true → list_all is_eight_bit table ≡ true
-built_eight table built = all_pass is_built is_eight_bit (λ rule h. (and_parts (is_eight_bit rule) (is_leaf rule.replace) h).0) table built
 
 -- where nothing is found at any number below a bound, nothing is found at any value below it
 none_found : (options : Options) (table : List Rule) (body : Nodes) (bound : ℕ) → ((n : ℕ) → n < bound → first_hit options table body (record { 0 = n }) ≡ None)

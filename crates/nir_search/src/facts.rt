@@ -11,6 +11,7 @@ ghost use Rattle.rule_term.specs.Variants.{is_commutative};
 ghost use Rattle.nir_search.specs.Match.{is_literal, is_taken, meets, same_op, viewed_const};
 
 use crate::hit::Bind;
+use crate::work::Work;
 use bitflags::Flags;
 use nir_ir::{Instr, Kind, Shader, ValueId};
 use nir_ops::{Op, Width, info};
@@ -43,10 +44,10 @@ pub fn kind_at(shader: &Shader, value: ValueId) -> Option<Kind>
 }
 
 /// The bit size of a value.
-pub fn width_at(shader: &Shader, value: ValueId) -> Width
-    ensures { result ≡ width_at shader.now.body value }
+pub fn width_at(work: &Work, value: ValueId) -> Width
+    ensures { result ≡ width_at work.now.shader.body value }
 {
-    match kind_at(shader, value) {
+    match work.kind(value) {
         Some(kind) => kind.width,
         None => Width::W1,
     }
@@ -68,13 +69,12 @@ fn const_of(instr: &Instr) -> Option<&[u64]>
 }
 
 /// The components of the const that writes the value.
-fn const_at(shader: &Shader, value: ValueId) -> Option<&[u64]>
-    ensures value { option_map (λ comps. comps.now) result ≡ const_at shader.now.body value }
-    ensures words { IfSome result (λ comps. AllByRecursion (λ comp. comp < 2 ^ width_bits (width_at shader.now.body value)) comps.now) }
+fn const_at(work: &Work, value: ValueId) -> Option<&[u64]>
+    ensures value { option_map (λ comps. comps.now) result ≡ const_at work.now.shader.body value }
+    ensures words { IfSome result (λ comps. AllByRecursion (λ comp. comp < 2 ^ width_bits (width_at work.now.shader.body value)) comps.now) }
 {
-    // The proof learns that the shader is shaped.
-    let _ = &shader.body;
-    match shader.instr(value) {
+    work.keeps_shape();
+    match work.instr(value) {
         Some(instr) => const_of(instr),
         None => None,
     }
@@ -101,14 +101,14 @@ fn all_equal(comps: &[u64], places: &[u8], word: u64) -> bool
 }
 
 /// Whether the view is a const of this number, modulo 2 to its bit size.
-pub fn is_literal(shader: &Shader, value: i128, view: &Bind) -> bool
-    ensures { result ≡ is_literal shader.now.body value view.now }
+pub fn is_literal(work: &Work, value: i128, view: &Bind) -> bool
+    ensures { result ≡ is_literal work.now.shader.body value view.now }
 {
-    match const_at(shader, view.value) {
+    match const_at(work, view.value) {
         Some(comps) => all_equal(
             comps,
             view.comps.as_slice(),
-            reduced(value, width_at(shader, view.value)),
+            reduced(value, width_at(work, view.value)),
         ),
         None => false,
     }
@@ -140,13 +140,13 @@ fn all_meet(cond: Cond, width: Width, comps: &[u64], places: &[u8]) -> bool
 }
 
 /// Whether the view is one of a const whose components meet a condition on words.
-fn const_meets(shader: &Shader, view: &Bind, cond: Cond) -> bool
-    ensures { result ≡ viewed_const (λ word. cond_holds cond (width_bits (width_at shader.now.body view.now.value)) word) (const_at shader.now.body view.now.value) view.now }
+fn const_meets(work: &Work, view: &Bind, cond: Cond) -> bool
+    ensures { result ≡ viewed_const (λ word. cond_holds cond (width_bits (width_at work.now.shader.body view.now.value)) word) (const_at work.now.shader.body view.now.value) view.now }
 {
-    match const_at(shader, view.value) {
+    match const_at(work, view.value) {
         Some(comps) => all_meet(
             cond,
-            width_at(shader, view.value),
+            width_at(work, view.value),
             comps,
             view.comps.as_slice(),
         ),
@@ -155,43 +155,42 @@ fn const_meets(shader: &Shader, view: &Bind, cond: Cond) -> bool
 }
 
 /// Whether the view meets the condition.
-fn meets(shader: &Shader, view: &Bind, cond: Cond) -> bool
-    ensures { result ≡ meets shader.now.body view.now cond }
+fn meets(work: &Work, view: &Bind, cond: Cond) -> bool
+    ensures { result ≡ meets work.now.shader.body view.now cond }
 {
     match cond {
-        Cond::NotConst => const_at(shader, view.value).is_none(),
-        Cond::UsedOnce => shader.is_used_once(view.value),
+        Cond::NotConst => const_at(work, view.value).is_none(),
+        Cond::UsedOnce => work.is_used_once(view.value),
         Cond::PosPow2
         | Cond::NegPow2
         | Cond::MultipleOf4
         | Cond::UpperHalfZero
-        | Cond::LowerHalfZero => const_meets(shader, view, cond),
+        | Cond::LowerHalfZero => const_meets(work, view, cond),
     }
 }
 
 /// Whether the view is one that a variable takes.
-pub fn is_taken(shader: &Shader, constant: bool, cond: Option<Cond>, view: &Bind) -> bool
-    ensures { result ≡ is_taken shader.now.body constant cond view.now }
+pub fn is_taken(work: &Work, constant: bool, cond: Option<Cond>, view: &Bind) -> bool
+    ensures { result ≡ is_taken work.now.shader.body constant cond view.now }
 {
     if constant {
-        if const_at(shader, view.value).is_none() {
+        if const_at(work, view.value).is_none() {
             return false;
         }
     }
     match cond {
-        Some(cond) => meets(shader, view, cond),
+        Some(cond) => meets(work, view, cond),
         None => true,
     }
 }
 
 /// How many components a value has; 0 where nothing defines it.
-pub fn count_at(shader: &Shader, value: ValueId) -> u8
-    ensures count { result ≡ option_map_or (λ kind. kind.count) (kind_at shader.now.body value) 0 }
+pub fn count_at(work: &Work, value: ValueId) -> u8
+    ensures count { result ≡ option_map_or (λ kind. kind.count) (kind_at work.now.shader.body value) 0 }
     ensures few { result ≤ 16 }
 {
-    // The proof learns that the shader is shaped.
-    let _ = &shader.body;
-    match kind_at(shader, value) {
+    work.keeps_shape();
+    match work.kind(value) {
         Some(kind) => kind.count,
         None => 0,
     }

@@ -1,13 +1,13 @@
 //! The first rule that matches at a value.
 
 ghost use Rattle.std.specs.Prelude.{◌≡◌, ◌≤◌, ◌<◌, ◌+◌, ◌-◌, ◌^◌, ℕ, [], ◌∷◌, length, min, slice_get, Some, true};
-ghost use Rattle.std.specs.List.{list_all, range_with_len};
+ghost use Rattle.std.specs.List.{range_with_len};
 ghost use Rattle.rule_term.specs.Rule.{Rule as Whole};
-ghost use Rattle.rule_term.specs.EightBit.{is_eight_bit};
 ghost use Rattle.rule_term.specs.Terms.{terms_of};
 ghost use Rattle.rule_term.specs.Variants.{commutes, variant_count};
-ghost use Rattle.nir_search.specs.Match.{match_of, root_view};
+ghost use Rattle.nir_search.specs.Match.{is_typed, match_of, met, root_view};
 ghost use Rattle.nir_search.specs.First.{first_hit, first_from, first_variant, hit_of, table_variants};
+ghost use Rattle.nir_search.specs.Work.{Fits};
 
 use crate::bound::Bound;
 use crate::facts::{count_at, is_commutative};
@@ -15,20 +15,29 @@ use crate::hit::{Hit, Subst};
 use crate::matching::match_term;
 use crate::steps::Steps;
 use crate::view::whole_view;
-use nir_ir::{Shader, ValueId};
-use rule_term::{Options, Rule, RuleVariant, Table, Term};
+use crate::widths::widths_met;
+use crate::work::Work;
+use nir_ir::ValueId;
+use rule_term::{Options, Rule, RuleVariant, Table, Term, replace_widths};
 use std::sync::ledger::Ledger;
 
-/// What the variables of a rule at 8 bits take where this variant of it matches at the value.
-fn match_at(rule: &Rule, variant: u32, shader: &Shader, value: ValueId) -> Option<Subst>
-    requires { is_eight_bit rule.now ≡ true }
-    ensures { result ≡ match_of rule.now variant shader.now.body value }
+/// Whether the values that the variant meets at the value have the sizes of a typing of the rule.
+fn is_typed(rule: &Rule, variant: u32, work: &Work, value: ValueId) -> bool
+    ensures { result ≡ is_typed rule.now (met work.now.shader.body rule.now.search variant (root_view work.now.shader.body value ∷ [])) }
 {
-    let view = whole_view(value, count_at(shader, value));
+    let widths = widths_met(rule, variant, work, value);
+    replace_widths(rule, widths.as_slice()).is_some()
+}
+
+/// What the variables of a rule take where this variant of it matches at the value.
+fn match_at(rule: &Rule, variant: u32, work: &Work, value: ValueId) -> Option<Subst>
+    ensures { result ≡ match_of rule.now variant work.now.shader.body value }
+{
+    let view = whole_view(value, count_at(work, value));
     let mut bound = Bound::new(rule.vars);
-    match match_term(shader, &rule.search, view, variant, &mut bound) {
-        Some(walked) => {
-            if walked.eight {
+    match match_term(work, &rule.search, view, variant, &mut bound) {
+        Some(_left) => {
+            if is_typed(rule, variant, work, value) {
                 return Some(bound.subst());
             }
             None
@@ -38,23 +47,21 @@ fn match_at(rule: &Rule, variant: u32, shader: &Shader, value: ValueId) -> Optio
 }
 
 /// What the variables of a rule take where this variant of it matches at the value; None exactly where it does
-/// not. The rules of the table stand at 8 bits alone, so far. Counts one step. A plain walk: each value on the way
-/// is sought through the shader.
-#[tactic(auto, using(list_laws::specs::AllLaws::passes_at))]
+/// not. Counts one step. The sizes are looked at last, where all else matches; it takes no memory.
 pub fn match_rule<L: Ledger>(
     table: &Table,
     rv: RuleVariant,
-    shader: &Shader,
+    work: &Work,
     value: ValueId,
     steps: &mut Steps<L>,
 ) -> Option<Subst>
     requires place { rv.rule < length table.now.rules }
-    requires eight { list_all is_eight_bit table.now.rules ≡ true }
-    ensures value { (rule : Whole) → slice_get table.now.rules rv.rule ≡ Some rule → result ≡ match_of rule rv.variant shader.now.body value }
+    requires fits { Fits work.now table.now.rules }
+    ensures value { (rule : Whole) → slice_get table.now.rules rv.rule ≡ Some rule → result ≡ match_of rule rv.variant work.now.shader.body value }
     ensures counted { steps.new ≡ steps.old + 1 }
 {
     steps.tick();
-    match_at(table.rule(rv.rule), rv.variant, shader, value)
+    match_at(table.rule(rv.rule), rv.variant, work, value)
 }
 
 // Commutative opcodes are counted as what they leave of 8: each takes one away, as long as there is one.
@@ -100,13 +107,13 @@ fn hit_of<L: Ledger>(
     table: &Table,
     place: u32,
     options: &Options,
-    shader: &Shader,
+    work: &Work,
     value: ValueId,
     steps: &mut Steps<L>,
 ) -> Option<Hit>
     requires place { place < length table.now.rules }
-    requires eight { list_all is_eight_bit table.now.rules ≡ true }
-    ensures hit { (rule : Whole) → slice_get table.now.rules place ≡ Some rule → result ≡ hit_of options.now rule place shader.now.body value }
+    requires fits { Fits work.now table.now.rules }
+    ensures hit { (rule : Whole) → slice_get table.now.rules place ≡ Some rule → result ≡ hit_of options.now rule place work.now.shader.body value }
     ensures counted { (rule : Whole) → slice_get table.now.rules place ≡ Some rule → steps.new ≤ steps.old + variant_count rule }
 {
     let rule = table.rule(place);
@@ -118,7 +125,7 @@ fn hit_of<L: Ledger>(
             rule: place,
             variant,
         };
-        match match_rule(table, rv, shader, value, steps) {
+        match match_rule(table, rv, work, value, steps) {
             Some(subst) => {
                 return Some(Hit {
                     rule: place,
@@ -133,21 +140,21 @@ fn hit_of<L: Ledger>(
 }
 
 /// The first rule of the table that matches at the value, of which the options hold, with the first of its variants
-/// that does; None exactly where none does. The rules of the table stand at 8 bits alone, so far. A plain search
-/// through all rules and variants, which counts at most one step for each variant.
+/// that does; None exactly where none does. A plain search through all rules and variants, which counts at most one
+/// step for each variant.
 pub fn first_match<L: Ledger>(
     table: &Table,
     options: &Options,
-    shader: &Shader,
+    work: &Work,
     value: ValueId,
     steps: &mut Steps<L>,
 ) -> Option<Hit>
-    requires eight { list_all is_eight_bit table.now.rules ≡ true }
-    ensures hit { result ≡ first_hit options.now table.now.rules shader.now.body value }
+    requires fits { Fits work.now table.now.rules }
+    ensures hit { result ≡ first_hit options.now table.now.rules work.now.shader.body value }
     ensures counted { steps.new ≤ steps.old + table_variants table.now.rules }
 {
     for place in 0..table.len() {
-        match hit_of(table, place as u32, options, shader, value, steps) {
+        match hit_of(table, place as u32, options, work, value, steps) {
             Some(hit) => return Some(hit),
             None => {}
         }

@@ -9,6 +9,8 @@ mod matching;
 mod steps;
 mod view;
 mod weight;
+mod widths;
+mod work;
 
 pub use facts::count_at;
 pub use first::{first_match, match_rule};
@@ -16,3 +18,5 @@ pub use hit::{Bind, Hit, Subst};
 pub use rule_term::RuleVariant;
 pub use steps::Steps;
 pub use weight::weight_of;
+pub use widths::widths_met;
+pub use work::Work;

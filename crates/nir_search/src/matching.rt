@@ -1,6 +1,5 @@
 //! The walk of a match: along the search side of a rule, and along what the shader computes.
 
-ghost use Rattle.op_eval.specs.Calls.{same_width};
 ghost use Rattle.std.specs.Prelude.{◌≡◌, ◌≤◌, false, [], ◌∷◌, length, List, map, None, Option};
 ghost use Rattle.std.specs.Option.{option_map};
 ghost use Rattle.rule_term.specs.Terms.{terms_of, Nil, VarThen, LitThen, AppThen};
@@ -10,31 +9,16 @@ ghost use Rattle.nir_search.specs.Walks.{IsSources, Walks};
 ghost use Rattle.nir_search.specs.declared.hit.Bind as bind;
 
 use crate::bound::Bound;
-use crate::facts::{is_commutative, is_literal, is_taken, same_op, width_at};
+use crate::facts::{is_commutative, is_literal, is_taken, same_op};
 use crate::hit::Bind;
 use crate::view::child_at;
-use nir_ir::{Instr, Shader, Src};
-use nir_ops::{Op, Width};
+use crate::work::Work;
+use nir_ir::{Instr, Src};
+use nir_ops::Op;
 use rule_term::{Cond, Term};
 
-/// How far a match came: what is left of the variant's bits, and whether all values that were met have 8 bits.
-#[derive(Clone, Copy)]
-pub struct Walked {
-    pub bits: u32,
-    pub eight: bool,
-}
-
-fn is_eight(width: Width) -> bool
-    ensures { result ≡ same_width Width.W8 width }
-{
-    match width {
-        Width::W8 => true,
-        Width::W1 | Width::W16 | Width::W32 | Width::W64 => false,
-    }
-}
-
 /// Whether the sources of the opcode stand swapped.
-fn is_swapped(op: Op, bits: u32) -> bool
+pub fn is_swapped(op: Op, bits: u32) -> bool
     ensures { result ≡ is_swapped op bits }
 {
     if !is_commutative(op) {
@@ -44,7 +28,7 @@ fn is_swapped(op: Op, bits: u32) -> bool
 }
 
 /// The bits that are left behind the opcode.
-fn bits_left(op: Op, bits: u32) -> u32
+pub fn bits_left(op: Op, bits: u32) -> u32
     ensures { result ≡ bits_left op bits }
 {
     if is_commutative(op) { bits / 2 } else { bits }
@@ -52,50 +36,46 @@ fn bits_left(op: Op, bits: u32) -> u32
 
 /// Matches a variable with a view.
 fn match_var(
-    shader: &Shader,
+    work: &Work,
     var: u32,
     constant: bool,
     cond: Option<Cond>,
     view: Bind,
     bits: u32,
     bound: &mut Bound,
-) -> Option<Walked>
-    ensures { Walks shader.now.body (VarThen var constant None cond Nil) bits (view ∷ []) bound.old result bound.new }
+) -> Option<u32>
+    ensures { Walks work.now.shader.body (VarThen var constant None cond Nil) bits (view ∷ []) bound.old result bound.new }
 {
-    if !is_taken(shader, constant, cond, &view) {
+    if !is_taken(work, constant, cond, &view) {
         return None;
     }
-    let eight = is_eight(width_at(shader, view.value));
     if !bound.bind(var, view) {
         return None;
     }
-    Some(Walked { bits, eight })
+    Some(bits)
 }
 
 /// Matches a number with a view. It binds nothing.
-fn match_lit(shader: &Shader, value: i128, view: Bind, bits: u32, bound: &Bound) -> Option<Walked>
-    ensures { Walks shader.now.body (LitThen value false Nil) bits (view ∷ []) bound.now result bound.now }
+fn match_lit(work: &Work, value: i128, view: Bind, bits: u32, bound: &Bound) -> Option<u32>
+    ensures { Walks work.now.shader.body (LitThen value false Nil) bits (view ∷ []) bound.now result bound.now }
 {
     let _ = bound;
-    if !is_literal(shader, value, &view) {
+    if !is_literal(work, value, &view) {
         return None;
     }
-    Some(Walked {
-        bits,
-        eight: is_eight(width_at(shader, view.value)),
-    })
+    Some(bits)
 }
 
 /// Matches a term with a view.
 #[cycle(matching)]
 pub fn match_term(
-    shader: &Shader,
+    work: &Work,
     term: &Term,
     view: Bind,
     bits: u32,
     bound: &mut Bound,
-) -> Option<Walked>
-    ensures { Walks shader.now.body (terms_of (term.now ∷ [])) bits (view ∷ []) bound.old result bound.new }
+) -> Option<u32>
+    ensures { Walks work.now.shader.body (terms_of (term.now ∷ [])) bits (view ∷ []) bound.old result bound.new }
 {
     match term {
         Term::Var {
@@ -103,10 +83,10 @@ pub fn match_term(
             constant,
             cond,
             ..
-        } => match_var(shader, *var, *constant, *cond, view, bits, bound),
-        Term::Lit { value, .. } => match_lit(shader, *value, view, bits, bound),
+        } => match_var(work, *var, *constant, *cond, view, bits, bound),
+        Term::Lit { value, .. } => match_lit(work, *value, view, bits, bound),
         Term::App { op, once, args, .. } => {
-            match_app(shader, *op, *once, args.as_slice(), view, bits, bound)
+            match_app(work, *op, *once, args.as_slice(), view, bits, bound)
         }
     }
 }
@@ -114,36 +94,31 @@ pub fn match_term(
 /// Matches an opcode over its sources with a view.
 #[cycle(matching)]
 fn match_app(
-    shader: &Shader,
+    work: &Work,
     op: Op,
     once: bool,
     args: &[Term],
     view: Bind,
     bits: u32,
     bound: &mut Bound,
-) -> Option<Walked>
-    ensures { Walks shader.now.body (AppThen op None once (terms_of args.now) Nil) bits (view ∷ []) bound.old result bound.new }
+) -> Option<u32>
+    ensures { Walks work.now.shader.body (AppThen op None once (terms_of args.now) Nil) bits (view ∷ []) bound.old result bound.new }
 {
-    let srcs = sources_of(shader, op, once, &view)?;
-    let eight = is_eight(width_at(shader, view.value));
-    let walked = match_args(
-        shader,
+    let srcs = sources_of(work, op, once, &view)?;
+    match_args(
+        work,
         args,
         view.comps.as_slice(),
         is_swapped(op, bits),
         srcs,
         bits_left(op, bits),
         bound,
-    )?;
-    Some(Walked {
-        bits: walked.bits,
-        eight: eight & walked.eight,
-    })
+    )
 }
 
 /// The sources of the instruction that writes the viewed value, where it is of this opcode and, where that is asked, has one use.
-fn sources_of<'a>(shader: &'a Shader, op: Op, once: bool, view: &Bind) -> Option<&'a [Src]>
-    ensures { IsSources shader.now.body op once view.now (option_map (λ srcs. srcs.now) result) }
+fn sources_of<'a>(work: &'a Work, op: Op, once: bool, view: &Bind) -> Option<&'a [Src]>
+    ensures { IsSources work.now.shader.body op once view.now (option_map (λ srcs. srcs.now) result) }
 {
     let Some(
         Instr::Alu {
@@ -151,7 +126,7 @@ fn sources_of<'a>(shader: &'a Shader, op: Op, once: bool, view: &Bind) -> Option
             srcs,
             ..
         },
-    ) = shader.instr(view.value)
+    ) = work.instr(view.value)
     else {
         return None;
     };
@@ -161,7 +136,7 @@ fn sources_of<'a>(shader: &'a Shader, op: Op, once: bool, view: &Bind) -> Option
     if !once {
         return Some(srcs.as_slice());
     }
-    if shader.is_used_once(view.value) {
+    if work.is_used_once(view.value) {
         Some(srcs.as_slice())
     } else {
         None
@@ -171,28 +146,24 @@ fn sources_of<'a>(shader: &'a Shader, op: Op, once: bool, view: &Bind) -> Option
 /// Matches the sources of an opcode, as the rule has them, with the sources of an instruction, of which these components are viewed.
 #[cycle(matching)]
 fn match_args(
-    shader: &Shader,
+    work: &Work,
     args: &[Term],
     comps: &[u8],
     flag: bool,
     srcs: &[Src],
     bits: u32,
     bound: &mut Bound,
-) -> Option<Walked>
+) -> Option<u32>
     requires { length comps.now ≤ 16 }
-    ensures { Walks shader.now.body (terms_of args.now) bits (map (child comps.now) (swapped flag srcs.now)) bound.old result bound.new }
+    ensures { Walks work.now.shader.body (terms_of args.now) bits (map (child comps.now) (swapped flag srcs.now)) bound.old result bound.new }
 {
     let mut bits = bits;
-    let mut eight = true;
     for (at, arg) in args.iter().enumerate() {
         let view = child_at(comps, flag, srcs, at);
-        match match_term(shader, arg, view, bits, bound) {
-            Some(walked) => {
-                bits = walked.bits;
-                eight &= walked.eight;
-            }
+        match match_term(work, arg, view, bits, bound) {
+            Some(left) => bits = left,
             None => return None,
         }
     }
-    Some(Walked { bits, eight })
+    Some(bits)
 }

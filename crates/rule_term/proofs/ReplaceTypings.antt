@@ -33,38 +33,6 @@ use Rattle.rule_term.proofs.ReplaceKnown.{Known, all_known, replaced_known, sear
 use Rattle.rule_term.proofs.ReplaceRoots.{length-least}
 use Rattle.rule_term.proofs.ReplaceExact.{IsPart, least_before, least_part}
 
--- a side with few opcodes, none of which has more than three sources, has few nodes
-three_inputs : (op : Op) → (not (may_stand op) || nat_le (length (op_info op).inputs) 3) ≡ true
-unfolding may_stand shape_of op_info row_of
-three_inputs Vec2 = refl
-three_inputs op = refl
-
-few_inputs : (op : Op) → may_stand op ≡ true → length (op_info op).inputs ≤ 3
-few_inputs op h = leb-true (length (op_info op).inputs) 3 (cc (three_inputs op))
-
-few_nodes : (n : ℕ) (terms : Terms) → list_all (piece_ready n) (pieces terms) ≡ true → size_of terms ≤ terms_count terms + 3 * length (ops_of terms)
-few_nodes n Nil ready = omega arith
-few_nodes n (VarThen var constant size cond rest) ready = let less = few_nodes n rest (and_parts (nat_lt var n) (list_all (piece_ready n) (pieces rest)) ready).1 in omega arith
-few_nodes n (LitThen value boolean rest) ready = let less = few_nodes n rest (and_parts true (list_all (piece_ready n) (pieces rest)) ready).1 in omega arith
-few_nodes n (AppThen op size once args rest) ready =
-    let has = and_parts (may_stand op && nat_eq (terms_count args) (length (op_info op).inputs)) (list_all (piece_ready n) (pieces args ++ pieces rest)) ready in
-    let own = and_parts (may_stand op) (nat_eq (terms_count args) (length (op_info op).inputs)) has.0 in
-    let have = and_parts (list_all (piece_ready n) (pieces args)) (list_all (piece_ready n) (pieces rest)) (sym (list_all-append (piece_ready n) (pieces args) (pieces rest)) ∙ has.1) in
-    let sources = few_inputs op own.0 in
-    let same = eqb-true (terms_count args) (length (op_info op).inputs) own.1 in
-    let under = few_nodes n args have.0 in
-    let behind = few_nodes n rest have.1 in
-    let count : length (flat_map op_of (pieces args ++ pieces rest)) ≡ length (ops_of args) + length (ops_of rest) =
-    ap length (flat_map-append op_of (pieces args) (pieces rest)) ∙ length-append (ops_of args) (ops_of rest) in
-    omega (arith, sources, same, under, behind, count)
-
-pub at_most_49 : (rule : Rule) → IsFormed rule → size_of rule.replace ≤ 49
-at_most_49 rule formed =
-    let few = few_nodes rule.vars rule.replace (replace_pieces rule.vars (pieces rule.replace) formed.replace).0 in
-    let one = formed.one_replace in
-    let ops = formed.few_replace in
-    omega (arith, few, one, ops)
-
 all_below : (m n : ℕ) (list : List ℕ) → m ≤ n → list_all (λ var. nat_lt var m) list ≡ true → list_all (λ var. nat_lt var n) list ≡ true
 all_below m n [] more h = refl
 all_below m n (var ∷ list) more h =

@@ -5,6 +5,7 @@ pub mod EightBit
 pub mod EightBitLaws
 pub mod EightBitTypings
 pub mod EverySize
+pub mod FewNodes
 pub mod Formed
 pub mod FormedTest
 pub mod FormedWalk

@@ -9,7 +9,7 @@ pub returns-in-Some-clause-hit : goal.returns-in-Some-clause-hit
 returns-in-Some-clause-hit g c =
     let less : c.loop-place.place < length c.args.table.now.rules = subst (λ n. c.loop-place.place < n) c.len-place-end.ensures.count c.loop-place-test.true in
     let there = rule_there c.args.table.now.rules c.loop-place.place less in
-    sym (rule_found c.args.options.now c.args.table.now.rules c.loop-place.place c.args.shader.now.body c.args.value there.0 c.in-Some.hit there.1 (sym (c.hit_of.ensures.hit there.0 there.1) ∙ c.in-Some.is))
+    sym (rule_found c.args.options.now c.args.table.now.rules c.loop-place.place c.args.work.now.shader.body c.args.value there.0 c.in-Some.hit there.1 (sym (c.hit_of.ensures.hit there.0 there.1) ∙ c.in-Some.is))
     ∙ c.loop-place.invariant.found
 
 pub returns-in-Some-clause-counted : goal.returns-in-Some-clause-counted
@@ -27,7 +27,7 @@ loop-place-preserved g c =
     let less : c.loop-place.place < length c.args.table.now.rules = subst (λ n. c.loop-place.place < n) c.len-place-end.ensures.count c.loop-place-test.true in
     let there = rule_there c.args.table.now.rules c.loop-place.place less in
     record {
-      found = rule_passed c.args.options.now c.args.table.now.rules c.loop-place.place c.args.shader.now.body c.args.value there.0 there.1 (sym (c.hit_of.ensures.hit there.0 there.1) ∙ c.in-None.is)
+      found = rule_passed c.args.options.now c.args.table.now.rules c.loop-place.place c.args.work.now.shader.body c.args.value there.0 there.1 (sym (c.hit_of.ensures.hit there.0 there.1) ∙ c.in-None.is)
           ∙ c.loop-place.invariant.found;
       counted =
           let before = c.loop-place.invariant.counted in

@@ -14,9 +14,9 @@ returns-in-Some-clause-hit g c rule at =
     sym c.if-not-holds.false ∙ c.holds.ensures ∙ ap (λ r. when_holds c.args.options.now r.when) (c.rule.view_is ∙ same) in
     let less : c.loop-variant.variant < variant_count rule =
     subst (λ n. c.loop-variant.variant < n) (c.variant_count-variant-end.ensures ∙ ap variant_count same) c.loop-variant-test.true in
-    sym (ap (λ b. if b then first_variant rule c.args.place c.args.shader.now.body c.args.value (range_with_len 0 (variant_count rule)) else None) (sym holds)
+    sym (ap (λ b. if b then first_variant rule c.args.place c.args.work.now.shader.body c.args.value (range_with_len 0 (variant_count rule)) else None) (sym holds)
     ∙ sym (c.loop-variant.invariant.found rule at)
-    ∙ variant_found rule c.args.place c.args.shader.now.body c.args.value c.loop-variant.variant (variant_count rule) c.in-Some.subst less (sym (c.in-Some.ensures.value rule at)))
+    ∙ variant_found rule c.args.place c.args.work.now.shader.body c.args.value c.loop-variant.variant (variant_count rule) c.in-Some.subst less (sym (c.in-Some.ensures.value rule at)))
 
 pub returns-in-Some-clause-counted : goal.returns-in-Some-clause-counted
 returns-in-Some-clause-counted g c rule at =
@@ -33,7 +33,7 @@ loop-variant-preserved g c = record {
       let same = same_Some c.rule-rule.result.now rule (sym c.rule-rule.ensures.value ∙ at) in
       let less : c.loop-variant.variant < variant_count rule =
       subst (λ n. c.loop-variant.variant < n) (c.variant_count-variant-end.ensures ∙ ap variant_count same) c.loop-variant-test.true in
-      variant_passed rule c.args.place c.args.shader.now.body c.args.value c.loop-variant.variant (variant_count rule) less (sym (c.in-None.ensures.value rule at))
+      variant_passed rule c.args.place c.args.work.now.shader.body c.args.value c.loop-variant.variant (variant_count rule) less (sym (c.in-None.ensures.value rule at))
       ∙ c.loop-variant.invariant.found rule at;
   counted = let before = c.loop-variant.invariant.counted in let here = c.in-None.ensures.counted in omega (arith, before, here);
 }

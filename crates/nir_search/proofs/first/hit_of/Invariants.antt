@@ -10,7 +10,7 @@ abbrev pub invariant-loop-variant : goal.invariant-loop-variant
 invariant-loop-variant g l = record {
   found :
       (rule : Rule) → slice_get l.table.rules l.place ≡ Some rule
-      → first_variant rule l.place l.shader.body l.value (range_with_len l.variant (variant_count rule - l.variant))
-      ≡ first_variant rule l.place l.shader.body l.value (range_with_len 0 (variant_count rule));
+      → first_variant rule l.place l.work.shader.body l.value (range_with_len l.variant (variant_count rule - l.variant))
+      ≡ first_variant rule l.place l.work.shader.body l.value (range_with_len 0 (variant_count rule));
   counted : l.steps ≤ l.fn.steps + l.variant;
 }

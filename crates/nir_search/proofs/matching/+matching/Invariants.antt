@@ -1,17 +1,12 @@
 -- what was matched, and what is matched behind it, is the whole match
-use Rattle.op_eval.specs.Calls.{same_width}
-use Rattle.std.proofs.Common.{◌≡◌, ◌&&◌, drop, map}
-use Rattle.std.specs.List.{list_all}
-use Rattle.nir_ops.specs.declared.width.Width.TheVariants.{W8}
+use Rattle.std.proofs.Common.{◌≡◌, drop, map}
 use Rattle.rule_term.specs.Terms.{terms_of}
 use Rattle.rule_term.specs.Variants.{bits_behind}
-use Rattle.nir_search.specs.Match.{matches, met, child, swapped}
+use Rattle.nir_search.specs.Match.{matches, child, swapped}
 use Rattle.nir_search.proofs.matching.+matching.Given as goal
 
 abbrev pub invariant-match_args-loop-at : goal.invariant-match_args-loop-at
 invariant-match_args-loop-at l =
-    (matches l.shader.body (terms_of (drop l.at l.args)) l.bits (drop l.at (map (child l.comps) (swapped l.flag l.srcs))) l.bound
-    ≡ matches l.shader.body (terms_of l.args) l.fn.bits (map (child l.comps) (swapped l.flag l.srcs)) l.fn.bound)
+    (matches l.work.shader.body (terms_of (drop l.at l.args)) l.bits (drop l.at (map (child l.comps) (swapped l.flag l.srcs))) l.bound
+    ≡ matches l.work.shader.body (terms_of l.args) l.fn.bits (map (child l.comps) (swapped l.flag l.srcs)) l.fn.bound)
     × (bits_behind (terms_of (drop l.at l.args)) l.bits ≡ bits_behind (terms_of l.args) l.fn.bits)
-    × ((l.eight && list_all (same_width W8) (met l.shader.body (terms_of (drop l.at l.args)) l.bits (drop l.at (map (child l.comps) (swapped l.flag l.srcs)))))
-    ≡ list_all (same_width W8) (met l.shader.body (terms_of l.args) l.fn.bits (map (child l.comps) (swapped l.flag l.srcs))))

@@ -1,9 +1,10 @@
 use Rattle.std.proofs.Common.{◌≡◌, ◌∙◌, [], ◌∷◌, cond, sym, ap, subst, false, true, None, Some, replicate, rules}
+use Rattle.rule_term.specs.FewNodes.{few_replaced}
 use Rattle.rule_term.specs.Formed.{IsFormed}
 use Rattle.rule_term.specs.Terms.{terms_of}
 use Rattle.rule_term.specs.Typings.{first_of, obeys, occurrences}
 use Rattle.rule_term.specs.ReplaceLeast.{can, knows, least, noted}
-use Rattle.rule_term.proofs.ReplaceTypings.{at_most_49, least_replaces, none_noted, none_obeys}
+use Rattle.rule_term.proofs.ReplaceTypings.{least_replaces, none_noted, none_obeys}
 use Rattle.rule_term.proofs.replace.replace_widths.Goals as goal
 
 pub returns-then-not-obeys_term : goal.returns-then-not-obeys_term
@@ -19,7 +20,7 @@ returns-in_default c =
     none_noted c.args.rule.now formed c.args.search.now c.requires (ap (λ r. noted (occurrences r.search c.args.search.now) (replicate 16 None)) (sym c.rule.view_is) ∙ broken)
 
 pub filled-requires : goal.filled-requires
-filled-requires c = at_most_49 _ c.rule.invariant
+filled-requires c = few_replaced _ c.rule.invariant
 
 pub returns : goal.returns
 returns c =

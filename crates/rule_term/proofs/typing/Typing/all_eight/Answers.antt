@@ -2,7 +2,8 @@ use Rattle.std.proofs.Common.{◌∙◌, ap, subst, arith}
 use Rattle.rule_term.specs.Formed.{IsFormed}
 use Rattle.rule_term.specs.EightBitLaws.{eight_is_typing}
 use Rattle.rule_term.specs.Typings.{is_typing}
-use Rattle.rule_term.proofs.SizeLemmas.{few_searched, few_replaced, all_eight-made}
+use Rattle.rule_term.specs.FewNodes.{few_searched, few_replaced}
+use Rattle.rule_term.proofs.SizeLemmas.{all_eight-made}
 use Rattle.rule_term.proofs.typing.Typing.all_eight.Goals as goal
 
 pub nodes_in-requires : goal.nodes_in-requires
