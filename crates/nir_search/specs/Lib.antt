@@ -7,3 +7,4 @@ pub mod Put
 pub mod Steps
 pub mod Walks
 pub mod Weight
+pub mod Work

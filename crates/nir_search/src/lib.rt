@@ -9,6 +9,7 @@ mod matching;
 mod steps;
 mod view;
 mod weight;
+mod work;
 
 pub use facts::count_at;
 pub use first::{first_match, match_rule};
@@ -16,3 +17,4 @@ pub use hit::{Bind, Hit, Subst};
 pub use rule_term::RuleVariant;
 pub use steps::Steps;
 pub use weight::{Census, count_instrs};
+pub use work::Work;
