@@ -1,24 +1,19 @@
 -- The index that the items of a shader make says of each value what is so.
-use Rattle.std.proofs.Common.{◌≡◌, refl, ℕ, ◌+◌, ◌<◌, ◌≤◌, ◌⊎◌, ⊎_elim, Bool, true, false, cond, List, [], ◌∷◌, ◌++◌, length, map, get_or, sym, ◌∙◌, ap, subst, arith, zero-add}
-use Rattle.std.specs.Prelude.{Option, Some, None, slice_get, slice_index, nat_eq, count_by, replicate}
-use Rattle.std.specs.List.{AllByRecursion, find, flat_map}
-use Rattle.std.specs.Option.{option_and_then, option_map, option_or, unwrap_or}
+use Rattle.std.proofs.Common.{◌≡◌, ℕ, ◌+◌, ◌<◌, ◌≤◌, ⊎_elim, sym, ◌∙◌, ap, arith, zero-add}
+use Rattle.std.specs.Prelude.{Some, None, slice_get, count_by, replicate}
+use Rattle.std.specs.List.{flat_map}
+use Rattle.std.specs.Option.{option_and_then, option_map, unwrap_or}
 use Rattle.std.proofs.lemmas.Option.{unwrap_or-slice_get}
 use Rattle.std.proofs.lemmas.Bool.{cases_lt}
 use Rattle.nir_ir.specs.declared.ids.ValueId.{ValueId}
-use Rattle.nir_ir.specs.declared.instr.Instr.{Instr}
-use Rattle.nir_ir.specs.declared.kind.Kind.{Kind}
-use Rattle.nir_ir.specs.declared.node.Phi.{Phi}
-use Rattle.nir_ir.specs.Definitions.{instr_defining, phi_defining, is_target, is_phi_of, instr_of, phi_of}
-use Rattle.nir_ir.specs.Items.{Item, items, uses, values_defined}
+use Rattle.nir_ir.specs.Items.{items, uses, values_defined}
 use Rattle.nir_ir.specs.Shaped.{IsOneOf, IsShaped}
 use Rattle.nir_ir.specs.Shader.{Shader}
 use Rattle.nir_ir.specs.Uses.{is_value, use_count}
 use Rattle.edit_laws.specs.NumbersLaws.{member_has}
 use Rattle.edit_laws.specs.UsesLaws.{no_instr, no_phi, no_use}
 use Rattle.nir_index.specs.declared.index.Definer.{Definer}
-use Rattle.nir_index.specs.declared.index.Index.{Index}
-use Rattle.nir_index.specs.Index.{IsIndex, blank, by_place, counted, known_or, noted, numbered, told}
+use Rattle.nir_index.specs.Index.{IsIndex, blank, by_place, counted, known_or, noted, numbered}
 use Rattle.nir_index.proofs.PlaceLemmas.{slice_get-place, slice_get-replicate, slice_get-replicate_past}
 
 -- a number that no value of the shader has

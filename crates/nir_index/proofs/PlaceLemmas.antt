@@ -1,6 +1,6 @@
 -- Lists that are changed place by place.
-use Rattle.std.proofs.Common.{◌≡◌, refl, ℕ, zero, suc, ◌+◌, ◌<◌, ◌≤◌, List, [], ◌∷◌, length, set, get_or, sym, ◌∙◌, ap, arith}
-use Rattle.std.specs.Prelude.{Option, Some, None, slice_get, replicate}
+use Rattle.std.proofs.Common.{◌≡◌, refl, ℕ, zero, suc, ◌+◌, ◌<◌, ◌≤◌, List, [], ◌∷◌, length, set, get_or, ◌∙◌, ap, arith}
+use Rattle.std.specs.Prelude.{Some, None, slice_get, replicate}
 use Rattle.std.specs.Option.{option_map}
 use Rattle.nir_index.specs.Index.{by_place}
 

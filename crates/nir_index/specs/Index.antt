@@ -1,5 +1,5 @@
 -- The index of a shader: by each value's number what defines it and how often it is used, as the definitions and the use lists of an SSA form tell it.
-use Rattle.std.specs.Prelude.{◌≡◌, ℕ, ◌+◌, suc, List, [], ◌∷◌, Option, None, map, replicate, slice_get, slice_index, count_by}
+use Rattle.std.specs.Prelude.{◌≡◌, ℕ, ◌+◌, suc, List, [], ◌∷◌, None, replicate, slice_get, slice_index, count_by}
 use Rattle.std.specs.List.{find, flat_map}
 use Rattle.std.specs.Option.{option_and_then, option_map, option_or}
 use Rattle.nir_ir.specs.declared.ids.ValueId.{ValueId}

@@ -1,14 +1,14 @@
 //! What an index of a shader holds, and how one is made: by one walk over the tree.
 
-ghost use Rattle.std.specs.Prelude.{◌≡◌, [], ◌∷◌, length, map, replicate, slice_get, IfOk};
+ghost use Rattle.std.specs.Prelude.{◌≡◌, [], ◌∷◌, length, map, replicate, slice_index, IfOk, Some};
+ghost use Rattle.std.specs.Option.{option_or};
 ghost use Rattle.nir_ir.specs.Items.{block_items, items, reads, uses, InstrItem, PhiItem};
 ghost use Rattle.nir_ir.specs.Nodes.{nodes_of};
 ghost use Rattle.nir_index.specs.Index.{blank, counted, noted, told, IsIndex};
 
-
 use nir_host::{OutOfMemory, Seq};
-use nir_tree::copied_instr;
 use nir_ir::{Block, Instr, Kind, Node, Phi, PhiSource, Shader, Src, ValueId};
+use nir_tree::copied_instr;
 use std::alloc::Global;
 
 /// What defines a value: an instruction, of which this is a copy, or a phi of this kind, or nothing.
@@ -39,6 +39,14 @@ pub(crate) fn index_of(alloc: Global, shader: &Shader) -> Result<Index, OutOfMem
     let mut index = blank(alloc, shader.next_value)?;
     note_list(alloc, &mut index, shader.body.as_slice())?;
     Ok(index)
+}
+
+/// How often a value is used; 0 past the end.
+pub(crate) fn count_at(counts: &[u64], value: ValueId) -> u64
+    ensures { result ≡ slice_index counts.now value.0 }
+{
+    let at = value.0 as usize;
+    if at < counts.len() { counts[at] } else { 0 }
 }
 
 /// The index in which so many values are neither defined nor used.
@@ -110,6 +118,27 @@ pub(crate) fn count_reads(counts: &mut Counts, instr: &Instr) -> Result<(), OutO
     }
 }
 
+/// An instruction that defines the value, unless one is known.
+fn learn_instr(alloc: Global, definer: &mut Definer, instr: &Instr) -> Result<(), OutOfMemory>
+    ensures { IfOk result (λ done. definer.new ≡ record definer.old { instr = option_or definer.old.instr (Some instr.now) }) }
+{
+    match definer.instr {
+        Some(_) => {}
+        None => definer.instr = Some(copied_instr(alloc, instr)?),
+    }
+    Ok(())
+}
+
+/// The kind of a phi that defines the value, unless one is known.
+fn learn_phi(definer: &mut Definer, kind: Kind)
+    ensures { definer.new ≡ record definer.old { phi = option_or definer.old.phi (Some kind) } }
+{
+    match definer.phi {
+        Some(_) => {}
+        None => definer.phi = Some(kind),
+    }
+}
+
 /// What an instruction defines.
 fn tell_instr(alloc: Global, definers: &mut Definers, instr: &Instr) -> Result<(), OutOfMemory>
     ensures { IfOk result (λ done. definers.new ≡ told (InstrItem instr.now ∷ []) definers.old) }
@@ -117,10 +146,7 @@ fn tell_instr(alloc: Global, definers: &mut Definers, instr: &Instr) -> Result<(
     if let Some(value) = instr.target() {
         let at = value.0 as usize;
         if at < definers.len() {
-            let definer = definers.at_mut(at);
-            if definer.instr.is_none() {
-                definer.instr = Some(copied_instr(alloc, instr)?);
-            }
+            learn_instr(alloc, definers.at_mut(at), instr)?;
         }
     }
     Ok(())
@@ -132,10 +158,7 @@ fn tell_phi(definers: &mut Definers, phi: &Phi)
 {
     let at = phi.value.0 as usize;
     if at < definers.len() {
-        let definer = definers.at_mut(at);
-        if definer.phi.is_none() {
-            definer.phi = Some(phi.kind);
-        }
+        learn_phi(definers.at_mut(at), phi.kind);
     }
 }
 

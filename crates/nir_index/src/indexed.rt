@@ -7,9 +7,10 @@ ghost use Rattle.nir_ir.specs.Edits.{with_news, ArePlaced};
 ghost use Rattle.nir_ir.specs.Shaped.{IsShaped};
 ghost use Rattle.nir_ir.specs.Uses.{use_count};
 
-use crate::index::{Index, index_of};
+use crate::index::{Index, count_at, index_of};
 use nir_host::OutOfMemory;
 use nir_ir::{Instr, Kind, Phi, Shader, ValueId};
+use nir_tree::with_instrs;
 use std::alloc::Global;
 use std::marker::Model;
 
@@ -48,7 +49,10 @@ impl Indexed {
     pub fn into_shader(self) -> Shader
         ensures { result ≡ self }
     {
-        let Indexed { shader, index: _index } = self;
+        let Indexed {
+            shader,
+            index: _index,
+        } = self;
         shader
     }
 
@@ -110,9 +114,28 @@ impl Indexed {
     pub fn uses(&self, value: ValueId) -> u64
         ensures { result ≡ use_count value self.now.body }
     {
-        match self.index.counts.get(value.0 as usize) {
-            Some(count) => *count,
-            None => 0,
-        }
+        count_at(self.index.counts.as_slice(), value)
+    }
+
+    /// Puts these instructions in the place of the one that defines the value; `next` is the next fresh number then. `OutOfMemory`
+    /// where there is no memory for it, or where a value would have 2^64 uses; then nothing has changed. Linear in the size of the shader.
+    pub fn replace(
+        &mut self,
+        alloc: Global,
+        value: ValueId,
+        news: &[Instr],
+        next: u32,
+    ) -> Result<(), OutOfMemory>
+        requires defined { IsSome (instr_defining value self.old.body) }
+        requires placed { ArePlaced self.old.next_value next value news.now }
+        requires shaped { IsShaped (with_news self.old value news.now next) }
+        ensures done { IfOk result (λ done. self.new ≡ with_news self.old value news.now next) }
+        ensures undone { OnErr result (self.new ≡ self.old) }
+    {
+        let shader = with_instrs(alloc, &self.shader, value, news, next)?;
+        let index = index_of(alloc, &shader)?;
+        self.shader = shader;
+        self.index = index;
+        Ok(())
     }
 }
