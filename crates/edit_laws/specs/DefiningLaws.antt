@@ -38,11 +38,11 @@ IsFound list (IfHead id condition) = Unit {0}
 IsFound list (LoopHead id) = Unit {0}
 
 -- what is not among the numbers is not found
-aims_not : (found : Option ValueId) (v : ValueId) → (IsOneOf (map (λ id. id.0) (option_to_list found)) v.0 → ⊥) → list_any (λ id. nat_eq id.0 v.0) (option_to_list found) ≡ false
+pub aims_not : (found : Option ValueId) (v : ValueId) → (IsOneOf (map (λ id. id.0) (option_to_list found)) v.0 → ⊥) → list_any (λ id. nat_eq id.0 v.0) (option_to_list found) ≡ false
 aims_not None v not = refl
 aims_not (Some id) v not = ap (λ t. t || false) (ne_eqb id.0 v.0 (λ same. not (subst (λ n. IsOneOf (id.0 ∷ []) n) same (one_of-here id.0 []))))
 
-no_target : (list : List Item) (v : ValueId) → (IsOneOf (flat_map numbers_of list) v.0 → ⊥) → find (is_target v) (flat_map instr_of list) ≡ None
+pub no_target : (list : List Item) (v : ValueId) → (IsOneOf (flat_map numbers_of list) v.0 → ⊥) → find (is_target v) (flat_map instr_of list) ≡ None
 no_target [] v not = refl
 no_target (BlockHead id ∷ list) v not = no_target list v not
 no_target (PhiItem phi ∷ list) v not = no_target list v (λ is. not (one_of-back (phi.value.0 ∷ []) (flat_map numbers_of list) v.0 is))

@@ -3,3 +3,4 @@ pub mod ItemsLaws
 pub mod PlacedLaws
 pub mod DefiningLaws
 pub mod KindsLaws
+pub mod UsesLaws

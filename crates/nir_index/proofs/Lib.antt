@@ -1,0 +1,3 @@
+pub mod PlaceLemmas
+pub mod NotedLemmas
+pub mod IndexLemmas

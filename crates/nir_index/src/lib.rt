@@ -1,0 +1,7 @@
+//! A shader with an index: what defines a value and how often it is used are known without a walk through the tree.
+#![tactic(auto)]
+
+mod index;
+mod indexed;
+
+pub use indexed::Indexed;
