@@ -1,8 +1,9 @@
 -- A rule that stands at each size of its opcodes, worked out by hand: three opcodes and two numbers for one opcode. One proof over the size says that it holds at all.
-use Rattle.std.specs.Prelude.{◌≡◌, refl, ◌<◌, ◌+◌, ◌*◌, ◌%◌, ◌-◌, ◌^◌, ℕ, zero, suc, ℤ, pos, negsuc, neg_ℤ, ◌-ℤ◌, true, false, List, None, [], ◌∷◌, length, nat_lt, replicate}
+use Rattle.std.specs.Prelude.{◌≡◌, refl, ◌<◌, ◌+◌, ◌*◌, ◌%◌, ◌-◌, ◌^◌, ℕ, ℤ, pos, negsuc, neg_ℤ, ◌-ℤ◌, true, false, List, None, [], ◌∷◌, length, nat_lt, replicate}
 use Rattle.std.proofs.lemmas.Bool.{and_parts, ltb-true}
 use Rattle.std.proofs.lemmas.Nat.{pow_pos}
-use Rattle.std.proofs.Common.{ap, arith, lit≤, subst, sym, ◌∙◌}
+use Rattle.std.proofs.Common.{ap, arith, lit≤, mod-eq_of_lt, subst, sym, ◌∙◌}
+use Rattle.std.proofs.Math.IntN.{+ℤ_idl}
 use Rattle.std.specs.List.{list_all, slice_index_or}
 use Rattle.nir_ops.specs.declared.op.Op.TheVariants.{Iadd, Imul, Ineg, Isub}
 use Rattle.nir_ops.specs.declared.width.Width.{Width}
@@ -71,11 +72,10 @@ word_small width (negsuc n) = let some = pow_pos width in omega (arith, some)
 
 word_same : (width n : ℕ) → n < 2 ^ width → residue width (pos n) ≡ n
 unfolding residue
-word_same width n small = omega (arith, small)
+word_same width n small = mod-eq_of_lt small
 
 less_from_zero : (v : ℕ) → (pos 0 -ℤ pos v) ≡ neg_ℤ (pos v)
-less_from_zero zero = refl
-less_from_zero (suc v) = refl
+less_from_zero v = +ℤ_idl (neg_ℤ (pos v))
 
 sides_same : (width v : ℕ) → residue width (neg_ℤ (pos v)) ≡ residue width (pos (residue width (pos (residue width (pos 0)) -ℤ pos v) + residue width (pos (v * residue width (pos 0)))))
 sides_same width v =
