@@ -125,7 +125,7 @@ fn answered<S: Source, K: Sink>(
     let shader = match read_valid(alloc, shader) {
         Ok(shader) => shader,
         Err(ShaderRefusal::ReadFault) => return Status::ReadFault(Which::Shader),
-        Err(ShaderRefusal::TooLong) => return Status::TooLong(Which::Shader),
+        Err(ShaderRefusal::TooLong) => return too_long(),
         Err(ShaderRefusal::Syntax(fault)) => return Status::ShaderSyntax(fault),
         Err(ShaderRefusal::Invalid { rule, item }) => return Status::ShaderInvalid { rule, item },
         Err(ShaderRefusal::OutOfMemory) => return Status::OutOfMemory,
@@ -140,6 +140,13 @@ fn answered<S: Source, K: Sink>(
         Ok(()) => Status::Ok,
         Err(_fault) => Status::WriteFault,
     }
+}
+
+/// The status for a shader of more bytes than are read; there are no rules that could be too long.
+fn too_long() -> Status
+    ensures { result ≡ Status.TooLong Which.Shader }
+{
+    Status::TooLong(Which::Shader)
 }
 
 /// The text of what the shader does.
