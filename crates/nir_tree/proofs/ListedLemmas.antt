@@ -1,5 +1,5 @@
 -- What a walk along the tree lists of the uses of a value, part by part.
-use Rattle.std.proofs.Common.{◌≡◌, ℕ, ◌+◌, ◌<◌, ◌≤◌, Bool, true, false, cond, List, [], ◌∷◌, ◌++◌, map, length, get_or, drop, sym, ◌∙◌, ap, subst, refl, append_assoc, arith}
+use Rattle.std.proofs.Common.{◌≡◌, ℕ, ◌+◌, ◌<◌, ◌≤◌, Bool, true, false, cond, List, [], ◌∷◌, ◌++◌, map, length, get_or, drop, sym, ◌∙◌, ap, subst, refl, append_assoc}
 use Rattle.std.proofs.lemmas.List.{append-nil, drop_all, drop_more}
 use Rattle.std.proofs.lemmas.Grind.{flat_map-append}
 use Rattle.std.proofs.lemmas.List.Folds.{flat_map-map}
@@ -18,7 +18,7 @@ use Rattle.nir_ir.specs.declared.node.Node.{Node}
 use Rattle.nir_ir.specs.declared.node.Node.TheVariants as node
 use Rattle.nir_ir.specs.declared.node.Phi.{Phi}
 use Rattle.nir_ir.specs.Items.{Item, BlockHead, PhiItem, InstrItem, JumpItem, IfHead, items}
-use Rattle.nir_ir.specs.Nodes.{Nodes, Nil, BlockThen, nodes_of}
+use Rattle.nir_ir.specs.Nodes.{Nil, BlockThen, nodes_of}
 use Rattle.nir_ir.specs.Shaped.{IsShapedInstr, IsShapedItem, IsShapedPhi}
 use Rattle.nir_ir.specs.Splits.{given-block, items-if, items-loop, items-drop}
 use Rattle.nir_ir.specs.Uses.{is_value}

@@ -1,5 +1,5 @@
 -- What a walk along the tree of a shader lists are the uses of the value, each once.
-use Rattle.std.proofs.Common.{◌≡◌, ◌≢◌, refl, ℕ, ◌+◌, ◌<◌, ◌≤◌, Bool, true, false, cond, nat_eq, Option, Some, List, [], ◌∷◌, ◌++◌, map, length, sym, ◌∙◌, ap, subst, append_assoc, zero-add, arith}
+use Rattle.std.proofs.Common.{◌≡◌, ◌≢◌, refl, ℕ, ◌+◌, ◌<◌, Bool, true, false, cond, nat_eq, Some, List, [], ◌∷◌, ◌++◌, map, length, sym, ◌∙◌, ap, subst, append_assoc, arith}
 use Rattle.std.proofs.lemmas.Bool.{eqb-true, eq-eqb, true≢false}
 use Rattle.std.proofs.lemmas.List.{length-append}
 use Rattle.std.proofs.lemmas.List.Elements.{All-from_recursion}
@@ -10,7 +10,6 @@ use Rattle.std.specs.List.{flat_map, count_by, slice_get, AllByRecursion, AllPai
 use Rattle.list_laws.specs.AllLaws.{all_append, all_back, all_each, all_front}
 use Rattle.nir_ir.specs.declared.ids.ValueId.{ValueId}
 use Rattle.nir_ir.specs.declared.ids.EffectId.{EffectId}
-use Rattle.nir_ir.specs.declared.ids.IfId.{IfId}
 use Rattle.nir_ir.specs.declared.instr.Instr.{Instr}
 use Rattle.nir_ir.specs.declared.instr.Instr.TheVariants.{Alu, Const, Undef, Input, Output, LoadBuf, StoreBuf}
 use Rattle.nir_ir.specs.declared.journal.Use.{Use}
@@ -19,7 +18,7 @@ use Rattle.nir_ir.specs.Items.{Item, BlockHead, PhiItem, InstrItem, JumpItem, If
 use Rattle.nir_ir.specs.Nodes.{Nodes}
 use Rattle.nir_ir.specs.Shader.{Shader}
 use Rattle.nir_ir.specs.Shaped.{IsShaped}
-use Rattle.nir_ir.specs.Uses.{is_value, use_count}
+use Rattle.nir_ir.specs.Uses.{is_value}
 use Rattle.nir_tree.specs.Listed.{numbered, source_of, uses_by, uses_in}
 use Rattle.nir_tree.specs.Users.{AreUsers, IsNamed, IsUseOf, source_number}
 

@@ -16,8 +16,8 @@ use std::alloc::Global;
 /// Uses of a value.
 pub type Uses = Seq<Use>;
 
-/// Each use of a value once, in text order. `OutOfMemory` where there is no memory for the list.
-/// Linear in the size of the shader.
+/// Each use of a value once. They are listed in text order, which no clause says. `OutOfMemory` where there is
+/// no memory for the list. Linear in the size of the shader.
 pub fn users(alloc: Global, shader: &Shader, value: ValueId) -> Result<Uses, OutOfMemory>
     ensures { IfOk result (λ uses. AreUsers value shader.now.body uses) }
 {
