@@ -1,9 +1,9 @@
 -- What a walk along the search side of a rule says of a match.
-use Rattle.std.specs.Prelude.{◌≡◌, refl, ◌+◌, ◌<◌, ◌≤◌, ◌-◌, ℕ, zero, suc, List, [], ◌∷◌, ◌++◌, Option, Some, None, Bool, true, false, ◌&&◌, length, replicate, slice_get, sum_by, if◌then◌else◌}
+use Rattle.std.specs.Prelude.{◌≡◌, refl, ◌+◌, ◌<◌, ◌-◌, ℕ, zero, suc, List, [], ◌∷◌, ◌++◌, Option, Some, None, Bool, true, false, length, replicate, slice_get, sum_by, if◌then◌else◌}
 use Rattle.std.proofs.Common.{sym, ◌∙◌, ap, subst, drop, take, get_or, zero-add, arith}
 use Rattle.std.proofs.lemmas.List.Sums.{sum_by-append}
 use Rattle.std.proofs.lemmas.Option.{none-some, same_Some}
-use Rattle.std.specs.List.{list_all, range_with_len}
+use Rattle.std.specs.List.{range_with_len}
 use Rattle.std.specs.Option.{option_map, option_or}
 use Rattle.nir_ir.specs.declared.ids.ValueId.{ValueId}
 use Rattle.nir_ir.specs.Nodes.{Nodes}
@@ -12,12 +12,13 @@ use Rattle.rule_term.specs.Lists as lists
 use Rattle.rule_term.specs.Terms.{Terms, Nil, VarThen, LitThen, AppThen, terms_of}
 use Rattle.rule_term.specs.Rule.{Rule}
 use Rattle.nir_search.specs.declared.hit.Bind.{Bind}
-use Rattle.rule_term.specs.Variants.{commutes}
+use Rattle.rule_term.specs.Options.{when_holds}
+use Rattle.rule_term.specs.Variants.{commutes, variant_count}
 use Rattle.nir_search.specs.Match.{all_bound, is_typed, match_of, met, root_view}
 use Rattle.rule_term.specs.declared.when.Options.{Options}
 use Rattle.nir_search.specs.declared.hit.Hit.{Hit}
 use Rattle.nir_search.specs.First.{first_variant, hit_of, first_from}
-use Rattle.nir_search.specs.Walks.{Walks}
+use Rattle.nir_search.specs.Walks.{NeverMatches, Walks}
 
 -- what is found where a walk ended so, and the sizes are those of a typing or not
 abbrev pub found_by : Bool → Option ℕ → List (Option Bind) → Option (List Bind)
@@ -46,6 +47,24 @@ match_is rule variant body value None after walks =
     sym (ap (λ o. if typed then option_map all_bound o else None) walks ∙ none_either typed)
 match_is rule variant body value (Some left) after walks =
     sym (ap (λ o. if is_typed rule (met body rule.search variant (root_view body value ∷ [])) then option_map all_bound o else None) walks.0)
+
+-- a value of which no view matches the search side is none at which the rule is found
+never_match : (rule : Rule) (variant : ℕ) (body : Nodes) (value : ValueId) → NeverMatches body rule.search value → match_of rule variant body value ≡ None
+unfolding match_of
+never_match rule variant body value never =
+    let typed : Bool = is_typed rule (met body rule.search variant (root_view body value ∷ [])) in
+    ap (λ o. if typed then option_map all_bound o else None) (never variant (root_view body value) (replicate rule.vars None) refl) ∙ none_either typed
+
+never_first : (rule : Rule) (place : ℕ) (body : Nodes) (value : ValueId) → NeverMatches body rule.search value → (variants : List ℕ) → first_variant rule place body value variants ≡ None
+never_first rule place body value never [] = refl
+never_first rule place body value never (variant ∷ variants) =
+    ap (λ o. option_or (option_map (λ binds. record { rule = place; variant = variant; subst = binds }) o) (first_variant rule place body value variants)) (never_match rule variant body value never)
+    ∙ never_first rule place body value never variants
+
+pub never_found : (options : Options) (rule : Rule) (place : ℕ) (body : Nodes) (value : ValueId) → NeverMatches body rule.search value → None ≡ hit_of options rule place body value
+never_found options rule place body value never =
+    sym (ap (λ (o : Option Hit). if when_holds options rule.when then o else None) (never_first rule place body value never (range_with_len 0 (variant_count rule)))
+    ∙ none_either (when_holds options rule.when))
 
 -- commutative opcodes of one list and then of another
 pub commutes-then : (a b : Terms) → commutes (lists.then a b) ≡ commutes a + commutes b

@@ -1,6 +1,8 @@
 -- How a match goes along a list of terms: the first, and then the others.
-use Rattle.nir_ir.specs.Definitions.{width_at}
-use Rattle.std.specs.Prelude.{◌≡◌, refl, ◌<◌, ◌≤◌, ◌+◌, ℕ, ℤ, suc, List, [], ◌∷◌, ◌++◌, Option, Some, None, Bool, true, false, length, drop, is_some, if◌then◌else◌}
+use Rattle.nir_ir.specs.Definitions.{alu_at, width_at}
+use Rattle.nir_ir.specs.declared.ids.ValueId.{ValueId}
+use Rattle.nir_ir.specs.Uses.{use_count}
+use Rattle.std.specs.Prelude.{◌≡◌, refl, ◌<◌, ◌≤◌, ◌+◌, ℕ, ℤ, suc, List, [], ◌∷◌, ◌++◌, Option, Some, None, Bool, true, false, ◌&&◌, length, drop, is_some, nat_eq, if◌then◌else◌}
 use Rattle.std.proofs.Common.{sym, ◌∙◌, ap, subst, get_or, arith}
 use Rattle.std.specs.Option.{option_and_then, option_map}
 use Rattle.std.proofs.Common.{append_assoc, drop-drop}
@@ -20,8 +22,8 @@ use Rattle.rule_term.specs.Splits.{drop_one, size_of-then, terms_count-terms_of}
 use Rattle.rule_term.specs.Typings.{size_of}
 use Rattle.nir_search.specs.declared.hit.Bind.{Bind}
 use Rattle.rule_term.specs.Variants.{bits_behind, bits_left, is_swapped}
-use Rattle.nir_search.specs.Match.{matches, met, bind, children, front, is_applied, is_literal, is_taken}
-use Rattle.nir_search.specs.Walks.{Walks}
+use Rattle.nir_search.specs.Match.{matches, met, bind, children, front, has_op, is_applied, is_literal, is_taken}
+use Rattle.nir_search.specs.Walks.{NeverMatches, Walks}
 
 and_then_assoc : {A : Type 0} (f g : A → Option A) (o : Option A) → option_and_then g (option_and_then f o) ≡ option_and_then (λ a. option_and_then g (f a)) o
 and_then_assoc f g None = refl
@@ -237,3 +239,18 @@ walk_off body list i t view bits views before after within at is walks =
     matches_at body list i t bits views before within at
     ∙ ap (option_and_then (matches body (terms_of (drop (i + 1) list)) (bits_behind (terms_of (t ∷ [])) bits) (drop (i + 1) views)))
     (ap (λ v. matches body (terms_of (t ∷ [])) bits (v ∷ []) before) (sym is) ∙ walks)
+
+-- an opcode that does not write a value matches no view of it
+no_root : (body : Nodes) (op : Op) (size : Option Width) (once : Bool) (args : Terms) (bits : ℕ) (view : Bind) (bound : List (Option Bind))
+    → has_op op (alu_at body view.value) ≡ false → matches body (AppThen op size once args Nil) bits (view ∷ []) bound ≡ None
+no_root body op size once args bits view bound not =
+    ap (λ (b : Bool). if b && (if once then nat_eq (use_count view.value body) 1 else true)
+    then option_and_then (matches body Nil (bits_behind args (bits_left op bits)) []) (matches body args (bits_left op bits) (children body (is_swapped op bits) view) bound)
+    else None) not
+
+pub never_app : (body : Nodes) (t : Term) (op : Op) (size : Option Width) (once : Bool) (args : List Term) (value : ValueId) → t ≡ term.App op size once args
+    → has_op op (alu_at body value) ≡ false → NeverMatches body (terms_of (t ∷ [])) value
+never_app body t op size once args value is not bits view bound same =
+    ap (λ t. matches body (terms_of (t ∷ [])) bits (view ∷ []) bound) is
+    ∙ ap (λ l. matches body l bits (view ∷ []) bound) (terms_of-app op size once args)
+    ∙ no_root body op size once (terms_of args) bits view bound (ap (λ v. has_op op (alu_at body v)) same ∙ not)

@@ -1,6 +1,7 @@
 -- What a part of a match answers: none where it fails, else what the variables are bound to behind it.
-use Rattle.std.specs.Prelude.{◌≡◌, ℕ, Bool, true, false, List, map, Option, Some, None}
+use Rattle.std.specs.Prelude.{◌≡◌, ℕ, Bool, true, false, List, [], ◌∷◌, map, Option, Some, None}
 use Rattle.nir_ops.specs.declared.op.Op.{Op}
+use Rattle.nir_ir.specs.declared.ids.ValueId.{ValueId}
 use Rattle.nir_ir.specs.declared.instr.Src.{Src}
 use Rattle.nir_ir.specs.Nodes.{Nodes}
 use Rattle.rule_term.specs.Terms.{Terms}
@@ -12,6 +13,10 @@ use Rattle.nir_search.specs.Match.{matches, is_applied, children, child, swapped
 abbrev pub Walks : Nodes → Terms → ℕ → List Bind → List (Option Bind) → Option ℕ → List (Option Bind) → Type 0
 Walks body terms bits views before None after = matches body terms bits views before ≡ None
 Walks body terms bits views before (Some left) after = (matches body terms bits views before ≡ Some after) × (left ≡ bits_behind terms bits)
+
+-- no view of the value matches the terms, whatever is bound
+abbrev pub NeverMatches : Nodes → Terms → ValueId → Type 0
+NeverMatches body terms value = (bits : ℕ) (view : Bind) (bound : List (Option Bind)) → view.value ≡ value → matches body terms bits (view ∷ []) bound ≡ None
 
 -- the sources of the instruction that writes the viewed value, where it is of the opcode and, where that is asked, has one use
 abbrev pub IsSources : Nodes → Op → Bool → Bind → Option (List Src) → Type 0

@@ -12,7 +12,7 @@ ghost use Rattle.nir_search.specs.Work.{Fits};
 use crate::bound::Bound;
 use crate::facts::{count_at, is_commutative};
 use crate::hit::{Hit, Subst};
-use crate::matching::match_term;
+use crate::matching::{match_term, may_match};
 use crate::steps::Steps;
 use crate::view::whole_view;
 use crate::widths::widths_met;
@@ -102,7 +102,7 @@ fn variant_count(rule: &Rule) -> u32
     1 << (8 - without_term(&rule.search, 8))
 }
 
-/// What one rule finds, of which the place in the table is this one.
+/// What one rule finds, of which the place in the table is this one. Where the root's opcode does not write the value, no variant is tried.
 fn hit_of<L: Ledger>(
     table: &Table,
     place: u32,
@@ -118,6 +118,9 @@ fn hit_of<L: Ledger>(
 {
     let rule = table.rule(place);
     if !rule.when.holds(options) {
+        return None;
+    }
+    if !may_match(work, &rule.search, value) {
         return None;
     }
     for variant in 0..variant_count(rule) {

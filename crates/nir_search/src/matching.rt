@@ -4,8 +4,9 @@ ghost use Rattle.std.specs.Prelude.{◌≡◌, ◌≤◌, false, [], ◌∷◌, 
 ghost use Rattle.std.specs.Option.{option_map};
 ghost use Rattle.rule_term.specs.Terms.{terms_of, Nil, VarThen, LitThen, AppThen};
 ghost use Rattle.rule_term.specs.Variants.{bits_left, is_swapped};
-ghost use Rattle.nir_search.specs.Match.{child, swapped};
-ghost use Rattle.nir_search.specs.Walks.{IsSources, Walks};
+ghost use Rattle.nir_ir.specs.Definitions.{alu_at};
+ghost use Rattle.nir_search.specs.Match.{child, has_op, swapped};
+ghost use Rattle.nir_search.specs.Walks.{IsSources, NeverMatches, Walks};
 ghost use Rattle.nir_search.specs.declared.hit.Bind as bind;
 
 use crate::bound::Bound;
@@ -13,7 +14,7 @@ use crate::facts::{is_commutative, is_literal, is_taken, same_op};
 use crate::hit::Bind;
 use crate::view::child_at;
 use crate::work::Work;
-use nir_ir::{Instr, Src};
+use nir_ir::{Instr, Src, ValueId};
 use nir_ops::Op;
 use rule_term::{Cond, Term};
 
@@ -32,6 +33,35 @@ pub fn bits_left(op: Op, bits: u32) -> u32
     ensures { result ≡ bits_left op bits }
 {
     if is_commutative(op) { bits / 2 } else { bits }
+}
+
+/// Whether an instruction of this opcode writes the value.
+fn is_written_by(work: &Work, value: ValueId, op: Op) -> bool
+    ensures { result ≡ has_op op (alu_at work.now.shader.body value) }
+{
+    match work.instr(value) {
+        Some(Instr::Alu { op: found, .. }) => same_op(*found, op),
+        Some(
+            Instr::Const { .. }
+            | Instr::Undef { .. }
+            | Instr::Input { .. }
+            | Instr::Output { .. }
+            | Instr::LoadBuf { .. }
+            | Instr::StoreBuf { .. },
+        )
+        | None => false,
+    }
+}
+
+/// False only where no view of the value matches the term, as its root says alone: an opcode that does not write the value.
+pub fn may_match(work: &Work, term: &Term, value: ValueId) -> bool
+    ensures { result ≡ false → NeverMatches work.now.shader.body (terms_of (term.now ∷ [])) value }
+{
+    match term {
+        Term::Var { .. } => true,
+        Term::Lit { .. } => true,
+        Term::App { op, .. } => is_written_by(work, value, *op),
+    }
 }
 
 /// Matches a variable with a view.
@@ -68,13 +98,7 @@ fn match_lit(work: &Work, value: i128, view: Bind, bits: u32, bound: &Bound) -> 
 
 /// Matches a term with a view.
 #[cycle(matching)]
-pub fn match_term(
-    work: &Work,
-    term: &Term,
-    view: Bind,
-    bits: u32,
-    bound: &mut Bound,
-) -> Option<u32>
+pub fn match_term(work: &Work, term: &Term, view: Bind, bits: u32, bound: &mut Bound) -> Option<u32>
     ensures { Walks work.now.shader.body (terms_of (term.now ∷ [])) bits (view ∷ []) bound.old result bound.new }
 {
     match term {

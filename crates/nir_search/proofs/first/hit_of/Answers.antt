@@ -4,7 +4,8 @@ use Rattle.std.specs.List.{range_with_len}
 use Rattle.rule_term.specs.Options.{when_holds}
 use Rattle.rule_term.specs.Variants.{variant_count}
 use Rattle.nir_search.specs.First.{first_variant}
-use Rattle.nir_search.proofs.FirstLemmas.{variant_found, variant_passed}
+use Rattle.nir_search.specs.Walks.{NeverMatches}
+use Rattle.nir_search.proofs.FirstLemmas.{never_found, variant_found, variant_passed}
 use Rattle.nir_search.proofs.first.hit_of.Goals as goal
 
 pub returns-in-Some-clause-hit : goal.returns-in-Some-clause-hit
@@ -37,3 +38,9 @@ loop-variant-preserved g c = record {
       ∙ c.loop-variant.invariant.found rule at;
   counted = let before = c.loop-variant.invariant.counted in let here = c.in-None.ensures.counted in omega (arith, before, here);
 }
+
+pub returns-then-not-may_match-clause-hit : goal.returns-then-not-may_match-clause-hit
+returns-then-not-may_match-clause-hit g c rule at =
+    let same = same_Some c.rule-rule.result.now rule (sym c.rule-rule.ensures.value ∙ at) in
+    never_found c.args.options.now rule c.args.place c.args.work.now.shader.body c.args.value
+    (subst (λ terms. NeverMatches c.args.work.now.shader.body terms c.args.value) (ap (λ r. r.search) (c.rule.view_is ∙ same)) (c.may_match.ensures c.if-not-may_match.true))

@@ -1,7 +1,6 @@
-use Rattle.std.proofs.Common.{◌≡◌, ◌∙◌, ◌∷◌, [], List, length, sym, ap}
+use Rattle.std.proofs.Common.{◌∙◌, ◌∷◌, [], length, ap}
 use Rattle.std.specs.Prelude.{is_some}
-use Rattle.nir_ops.specs.declared.width.Width.{Width}
-use Rattle.nir_search.specs.Match.{is_typed, met, root_view}
+use Rattle.nir_search.specs.Match.{is_typed, root_view}
 use Rattle.nir_search.specs.Met.{is_typed_found, length-met}
 use Rattle.nir_search.proofs.WalkLemmas.{some_as}
 use Rattle.nir_search.proofs.first.is_typed.Goals as goal

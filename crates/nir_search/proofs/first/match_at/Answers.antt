@@ -1,4 +1,4 @@
-use Rattle.std.proofs.Common.{◌≡◌, ◌∙◌, sym, ap, ◌∷◌, [], None, Some, List, ℕ, Option, replicate, if◌then◌else◌}
+use Rattle.std.proofs.Common.{◌∙◌, sym, ap, ◌∷◌, [], None, Some, replicate, if◌then◌else◌}
 use Rattle.rule_term.specs.Terms.{terms_of}
 use Rattle.nir_search.specs.Match.{all_bound, root_view, whole_view}
 use Rattle.nir_search.proofs.FirstLemmas.{match_is, walks_from}

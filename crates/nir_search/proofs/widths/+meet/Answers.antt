@@ -1,7 +1,6 @@
-use Rattle.std.proofs.Common.{◌≡◌, ◌∙◌, ◌≤◌, ◌+◌, ◌++◌, [], ◌∷◌, List, sym, ap, length, map, drop, append_assoc, arith, rules}
+use Rattle.std.proofs.Common.{◌≡◌, ◌∙◌, ◌+◌, ◌++◌, [], ◌∷◌, sym, ap, length, map, drop, append_assoc, arith, rules}
 use Rattle.std.proofs.lemmas.List.{length-append}
 use denote.Param.Weighed.{at_most}
-use Rattle.nir_ops.specs.declared.width.Width.{Width}
 use Rattle.nir_ir.specs.Definitions.{width_at}
 use Rattle.rule_term.specs.declared.term.Term.{the_lemmas}
 use Rattle.rule_term.specs.Terms.{terms_of}
@@ -21,11 +20,14 @@ meet_term-push-requires t c =
 pub meet_term-meet_terms-requires : goal.meet_term-meet_terms-requires
 meet_term-meet_terms-requires t c = (
   search (rules, the_lemmas, at_most),
-  (c.as_slice-in-App.ensures.fits, let whole = size_app c.args.term.now c.in-App.op c.in-App.size c.in-App.once c.in-App.args c.in-App.is in
-      let same : size_of (terms_of c.as_slice.result.now) ≡ size_of (terms_of c.in-App.args) = ap (λ x. size_of (terms_of x)) c.as_slice.ensures in
-      let room = c.requires.room in
-      let pushed = ap length c.push.ensures.items ∙ length-append c.args.widths.now.items (c.width_at.result ∷ []) in
-      omega (arith, whole, same, room, pushed)),
+  (
+    c.as_slice-in-App.ensures.fits,
+    let whole = size_app c.args.term.now c.in-App.op c.in-App.size c.in-App.once c.in-App.args c.in-App.is in
+        let same : size_of (terms_of c.as_slice.result.now) ≡ size_of (terms_of c.in-App.args) = ap (λ x. size_of (terms_of x)) c.as_slice.ensures in
+        let room = c.requires.room in
+        let pushed = ap length c.push.ensures.items ∙ length-append c.args.widths.now.items (c.width_at.result ∷ []) in
+        omega (arith, whole, same, room, pushed),
+  ),
 )
 
 pub meet_term-returns-in-Var-clause-left : goal.meet_term-returns-in-Var-clause-left
