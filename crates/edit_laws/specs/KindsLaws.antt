@@ -2,8 +2,8 @@
 use Rattle.std.specs.Prelude.{◌≡◌, refl, ℕ, ◌<◌, ◌≤◌, Bool, true, false, ◌||◌, nat_eq, cond, List, [], ◌∷◌, ◌++◌, length, map, Option, Some, None}
 use Rattle.std.specs.List.{AllByRecursion, find, flat_map, list_any, range_with_len, IsDistinct}
 use Rattle.std.specs.Option.{option_and_then, option_map, option_or, option_to_list}
-use Rattle.std.proofs.Common.{sym, ◌∙◌, ap, arith, subst, ⊎_elim, ◌⊎◌, inl, inr}
-use Rattle.std.proofs.lemmas.Bool.{cases_eq, cond-false, cond-true, ne_eqb}
+use Rattle.std.proofs.Common.{sym, ◌∙◌, ap, arith, subst, ⊎_elim, ◌⊎◌, inl, inr, append-nil}
+use Rattle.std.proofs.lemmas.Bool.{cases_eq, cases_lt, cond-false, cond-true, ne_eqb}
 use Rattle.list_laws.specs.AllLaws.{all_back, all_each, all_front}
 use Rattle.std.proofs.lemmas.Option.{none-some}
 use Rattle.nir_ir.specs.declared.ids.ValueId.{ValueId}
@@ -151,6 +151,45 @@ defining_value s value old news after shaped found placed less =
     ap (find (is_target value)) (instrs-replaced value news s.body)
     ∙ find_new value value news old placed.last (last_found s.next_value after value news placed less) (instrs s.body) found (itself value (instrs s.body))
 
+pub defining_here : (s : Shader) (value : ValueId) (old new : Instr) (news : List Instr) → instr_defining value s.body ≡ Some old → find (is_target value) news ≡ Some new → instr_defining value (replaced value news s.body) ≡ Some new
+defining_here s value old new news found among =
+    ap (find (is_target value)) (instrs-replaced value news s.body)
+    ∙ find_new value value news old new among (instrs s.body) found (itself value (instrs s.body))
+
+-- what is found nowhere
+none_found : {A : Type 0} (test : A → Bool) (list : List A) → find test list ≡ None → AllByRecursion (λ a. test a ≡ false) list
+none_found test [] none = tt
+none_found {A} test (a ∷ list) none = by_test (test a) refl (none_found test list) where
+  by_test : (here : Bool) → test a ≡ here → (find test list ≡ None → AllByRecursion (λ (x : A). test x ≡ false) list) → AllByRecursion (λ (x : A). test x ≡ false) (a ∷ list)
+  by_test true is rest = absurd (none-some a (sym none ∙ find-yes test a list is))
+  by_test false is rest = (is, rest (sym (find-no test a list is) ∙ none))
+
+-- each value is defined by the new instruction that defines it, else by what defined it before
+pub defining_placed : (s : Shader) (value id : ValueId) (old : Instr) (news : List Instr) (after : ℕ) → IsShaped s → instr_defining value s.body ≡ Some old → ArePlaced s.next_value after value news → value.0 < s.next_value
+    → instr_defining id (replaced value news s.body) ≡ option_or (find (is_target id) news) (instr_defining id s.body)
+defining_placed s value id old news after shaped found placed low = by_find (find (is_target id) news) refl where
+  fresh_or_value : (new : Instr) → find (is_target id) news ≡ Some new → id.0 < s.next_value → (id.0 ≡ value.0 → ⊥) → ⊥
+  fresh_or_value new among less differ =
+      none-some new
+      (sym (find-past (is_target id) news []
+      (numbers_not id news (λ is. ⊎_elim (λ same. differ same) (λ within. let high = within.0 in absurd (omega (arith, high, less))) (placed_within s.next_value after value news placed id.0 is)))
+      ) ∙ ap (find (is_target id)) (append-nil news) ∙ among)
+
+  by_find : (new : Option Instr) → find (is_target id) news ≡ new → instr_defining id (replaced value news s.body) ≡ option_or (find (is_target id) news) (instr_defining id s.body)
+  by_find (Some new) among =
+      ⊎_elim
+      (λ same. subst (λ (v : ValueId). find (is_target v) news ≡ Some new → instr_defining v (replaced value news s.body) ≡ Some new) (sym (same_id id value same)) (defining_here s value old new news found) among)
+      (λ differ. ⊎_elim (λ less. absurd (fresh_or_value new among less differ)) (λ high. defining_fresh s value id old new news shaped found among high) (cases_lt id.0 s.next_value))
+      (cases_eq id.0 value.0)
+      ∙ ap (λ f. option_or f (instr_defining id s.body)) (sym among)
+  by_find None none =
+      ap (find (is_target id)) (instrs-replaced value news s.body)
+      ∙ find_other value id news (none_found (is_target id) news none) (instrs s.body)
+      (target_apart value id
+      (λ same. none-some placed.last (sym (subst (λ (v : ValueId). find (is_target v) news ≡ None) (same_id id value same) none) ∙ last_found s.next_value after value news placed low))
+      (instrs s.body))
+      ∙ ap (λ f. option_or f (instr_defining id s.body)) (sym none)
+
 -- ---- and so the kinds of values
 
 pub phis-placed : (value : ValueId) (news : List Instr) (nodes : Nodes) → phis (replaced value news nodes) ≡ phis nodes
@@ -198,11 +237,6 @@ kind_there (Input v kind slot) id aims none = none-some kind (sym none)
 kind_there (Output effect slot src) id aims none = none-some id aims
 kind_there (LoadBuf v kind buffer offset) id aims none = none-some kind (sym none)
 kind_there (StoreBuf effect buffer offset src) id aims none = none-some id aims
-
-pub defining_here : (s : Shader) (value : ValueId) (old new : Instr) (news : List Instr) → instr_defining value s.body ≡ Some old → find (is_target value) news ≡ Some new → instr_defining value (replaced value news s.body) ≡ Some new
-defining_here s value old new news found among =
-    ap (find (is_target value)) (instrs-replaced value news s.body)
-    ∙ find_new value value news old new among (instrs s.body) found (itself value (instrs s.body))
 
 instrs_only : (news : List Instr) → flat_map instr_of (map InstrItem news) ≡ news
 instrs_only [] = refl
