@@ -44,6 +44,14 @@ pub numbered-cons : (value : ValueId) (named : ℕ → Use) (n : ℕ) (used : Va
     → numbered value named n (used ∷ more) ≡ cond (is_value value used) (named n ∷ []) [] ++ numbered value named (n + 1) more
 numbered-cons value named n used more = one_then (named n) (numbered value named (n + 1) more) (is_value value used)
 
+pub two_sources : (value : ValueId) (named : ℕ → Use) (first second : ValueId) (before one : List Use) → one ≡ before ++ cond (is_value value first) (named 0 ∷ []) []
+    → one ++ cond (is_value value second) (named 1 ∷ []) [] ≡ before ++ numbered value named 0 (first ∷ second ∷ [])
+two_sources value named first second before one is =
+    let last : List Use = cond (is_value value second) (named 1 ∷ []) [] in
+    ap (λ (t : List Use). t ++ last) is
+    ∙ append_assoc before (cond (is_value value first) (named 0 ∷ []) []) last
+    ∙ ap (λ (t : List Use). before ++ t) (sym (numbered-cons value named 0 first (second ∷ [])))
+
 pub numbered-drop : {A : Type 0} (value : ValueId) (named : ℕ → Use) (read : A → ValueId) (list : List A) (i : ℕ) (a : A) → i < length list → a ≡ get_or list i a
     → numbered value named i (map read (drop i list)) ≡ cond (is_value value (read a)) (named i ∷ []) [] ++ numbered value named (i + 1) (map read (drop (i + 1) list))
 numbered-drop value named read list i a within at =
