@@ -29,10 +29,6 @@ and_then_assoc : {A : Type 0} (f g : A → Option A) (o : Option A) → option_a
 and_then_assoc f g None = refl
 and_then_assoc f g (Some a) = refl
 
-and_then_some : {A : Type 0} (o : Option A) → option_and_then (λ a. Some a) o ≡ o
-and_then_some None = refl
-and_then_some (Some a) = refl
-
 and_then_if : {A : Type 0} (f : A → Option A) (test : Bool) (o : Option A) → option_and_then f (if test then o else None) ≡ (if test then option_and_then f o else None)
 and_then_if f true o = refl
 and_then_if f false o = refl
