@@ -17,7 +17,7 @@ use Rattle.nir_index.specs.Index.{IsIndex, blank, by_place, counted, known_or, n
 use Rattle.nir_index.proofs.PlaceLemmas.{slice_get-place, slice_get-replicate, slice_get-replicate_past}
 
 -- a number that no value of the shader has
-past_all : (s : Shader) → IsShaped s → (value : ValueId) → s.next_value ≤ value.0 → IsOneOf (values_defined s.body) value.0 → ⊥
+pub past_all : (s : Shader) → IsShaped s → (value : ValueId) → s.next_value ≤ value.0 → IsOneOf (values_defined s.body) value.0 → ⊥
 past_all s shaped value past is = let less = member_has (λ v. v < s.next_value) (values_defined s.body) value.0 shaped.below is in absurd (omega (arith, less, past))
 
 -- what stands at a number below the bound, and past it

@@ -29,51 +29,8 @@ use Rattle.nir_ir.specs.Uses.{is_value}
 use Rattle.nir_index.specs.declared.index.Definer.{Definer}
 use Rattle.nir_index.specs.declared.index.Index.{Index}
 use Rattle.nir_index.specs.Index.{counted, known_or, noted, numbered, told}
+use Rattle.nir_index.proofs.TallyLemmas.{counted-append, counted-nil}
 use Rattle.nir_index.proofs.PlaceLemmas.{place-kept, place-one, place-past, place-same, place-twice}
-
--- ---- counts
-
-count_by-append : {A : Type 0} (test : A → Bool) (first second : List A) → count_by test (first ++ second) ≡ count_by test first + count_by test second
-count_by-append test first second = sum_by-append (λ a. cond (test a) 1 0) first second
-
-abbrev more : List ValueId → ℕ → ℕ → ℕ
-more used n count = count + count_by (is_value (numbered n)) used
-
-pub counted-append : (first second : List ValueId) (counts : List ℕ) → counted (first ++ second) counts ≡ counted second (counted first counts)
-counted-append first second counts =
-    place-same (more (first ++ second)) (λ n count. more second n (more first n count))
-    (λ n count. ap (λ t. count + t) (count_by-append (is_value (numbered n)) first second) ∙ sym (add_assoc count (count_by (is_value (numbered n)) first) (count_by (is_value (numbered n)) second)))
-    0 counts
-    ∙ sym (place-twice (more first) (more second) 0 counts)
-
-pub counted-nil : (counts : List ℕ) → counted [] counts ≡ counts
-counted-nil counts = place-kept (more []) (λ n count. add-zero count) 0 counts
-
-same_number : (used : ValueId) (n : ℕ) → (n ≡ used.0 → ⊥) → (count : ℕ) → more (used ∷ []) n count ≡ count
-same_number used n differ count = ap (λ here. count + (0 + cond here 1 0)) (ne_eqb used.0 n (λ same. differ (sym same))) ∙ add-zero count
-
-pub counted-one : (used : ValueId) (counts : List ℕ) (d : ℕ) → used.0 < length counts → set counts used.0 (get_or counts used.0 d + 1) ≡ counted (used ∷ []) counts
-counted-one used counts d within =
-    ap (λ here. set counts used.0 (get_or counts used.0 d + (0 + cond here 1 0))) (sym (eq-eqb used.0 used.0 refl))
-    ∙ sym (place-one (more (used ∷ [])) used.0 (λ n count differ. same_number used n differ count) 0 counts used.0 d within (omega arith))
-
-pub counted-past : (used : ValueId) (counts : List ℕ) → length counts ≤ used.0 → counts ≡ counted (used ∷ []) counts
-counted-past used counts past = sym (place-past (more (used ∷ [])) used.0 (λ n count differ. same_number used n differ count) 0 counts (omega (arith, past)))
-
-pub counted-step : {A : Type 0} (part : A → ValueId) (list : List A) (i : ℕ) (a : A) (counts : List ℕ) → i < length list → a ≡ get_or list i a
-    → counted (map part (drop (i + 1) list)) (counted (part a ∷ []) counts) ≡ counted (map part (drop i list)) counts
-counted-step part list i a counts within at =
-    sym (ap (λ t. counted (map part t) counts) (drop_more list i a within)
-    ∙ ap (λ x. counted (part x ∷ map part (drop (i + 1) list)) counts) (sym at)
-    ∙ counted-append (part a ∷ []) (map part (drop (i + 1) list)) counts)
-
-pub counted-step_get : {A : Type 0} (part : A → ValueId) (list : List A) (i : ℕ) (d : A) (counts : List ℕ) → i < length list
-    → counted (map part (drop (i + 1) list)) (counted (part (get_or list i d) ∷ []) counts) ≡ counted (map part (drop i list)) counts
-counted-step_get part list i d counts within =
-    counted-step part list i (get_or list i d) counts within (sym (get_or_from_slice_get list i (get_or list i d) (get_or list i d) (slice_get-get_or list i d within)))
-
-pub counted-two : (first second : ValueId) (counts : List ℕ) → counted (first ∷ second ∷ []) counts ≡ counted (second ∷ []) (counted (first ∷ []) counts)
-counted-two first second counts = counted-append (first ∷ []) (second ∷ []) counts
 
 -- ---- what defines values
 
@@ -223,9 +180,6 @@ pub noted-block_node : (b : block.Block) (index : Index) → noted (items (nodes
 noted-block_node b index = ap (λ t. noted t index) (items-block b)
 
 -- all items were noted
-pub counted-end : {A : Type 0} (part : A → ValueId) (list : List A) (i : ℕ) (counts : List ℕ) → length list ≤ i → counts ≡ counted (map part (drop i list)) counts
-counted-end part list i counts past = sym (ap (λ t. counted (map part t) counts) (drop_all i list past) ∙ counted-nil counts)
-
 pub noted-end : {A : Type 0} (part : A → Item) (list : List A) (i : ℕ) (index : Index) → length list ≤ i → index ≡ noted (map part (drop i list)) index
 noted-end part list i index past = sym (ap (λ t. noted (map part t) index) (drop_all i list past) ∙ noted-nil index)
 

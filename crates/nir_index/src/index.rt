@@ -1,10 +1,10 @@
 //! What an index of a shader holds, and how one is made: by one walk over the tree.
 
 ghost use Rattle.std.specs.Prelude.{◌≡◌, [], ◌∷◌, length, map, replicate, slice_index, IfOk, Some};
-ghost use Rattle.std.specs.Option.{option_or};
+ghost use Rattle.std.specs.Option.{option_copied, option_or};
 ghost use Rattle.nir_ir.specs.Items.{block_items, items, reads, uses, InstrItem, PhiItem};
 ghost use Rattle.nir_ir.specs.Nodes.{nodes_of};
-ghost use Rattle.nir_index.specs.Index.{blank, counted, noted, told, IsIndex};
+ghost use Rattle.nir_index.specs.Index.{blank, counted, known_instr, noted, told, IsIndex};
 
 use nir_host::{OutOfMemory, Seq};
 use nir_ir::{Block, Instr, Kind, Node, Phi, PhiSource, Shader, Src, ValueId};
@@ -47,6 +47,16 @@ pub(crate) fn count_at(counts: &[u64], value: ValueId) -> u64
 {
     let at = value.0 as usize;
     if at < counts.len() { counts[at] } else { 0 }
+}
+
+/// The instruction that is known to define the value.
+pub(crate) fn instr_at(definers: &[Definer], value: ValueId) -> Option<&Instr>
+    ensures { option_copied result ≡ known_instr definers.now value }
+{
+    match definers.get(value.0 as usize) {
+        Some(definer) => definer.instr.as_ref(),
+        None => None,
+    }
 }
 
 /// The index in which so many values are neither defined nor used.

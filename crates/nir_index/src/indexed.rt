@@ -7,7 +7,8 @@ ghost use Rattle.nir_ir.specs.Edits.{with_news, ArePlaced};
 ghost use Rattle.nir_ir.specs.Shaped.{IsShaped};
 ghost use Rattle.nir_ir.specs.Uses.{use_count};
 
-use crate::index::{Index, count_at, index_of};
+use crate::exchange::exchange;
+use crate::index::{Index, count_at, index_of, instr_at};
 use nir_host::OutOfMemory;
 use nir_ir::{Instr, Kind, Phi, Shader, ValueId};
 use nir_tree::with_instrs;
@@ -74,10 +75,7 @@ impl Indexed {
     pub fn instr(&self, value: ValueId) -> Option<&Instr>
         ensures { option_copied result ≡ instr_defining value self.now.body }
     {
-        match self.index.definers.get(value.0 as usize) {
-            Some(definer) => definer.instr.as_ref(),
-            None => None,
-        }
+        instr_at(self.index.definers.as_slice(), value)
     }
 
     /// The phi that defines the value; None exactly where none does. A search through the tree.
@@ -132,10 +130,10 @@ impl Indexed {
         ensures done { IfOk result (λ done. self.new ≡ with_news self.old value news.now next) }
         ensures undone { OnErr result (self.new ≡ self.old) }
     {
+        self.keeps_shape();
         let shader = with_instrs(alloc, &self.shader, value, news, next)?;
-        let index = index_of(alloc, &shader)?;
+        exchange(alloc, &mut self.index, value, news, next)?;
         self.shader = shader;
-        self.index = index;
         Ok(())
     }
 }

@@ -1,5 +1,5 @@
 use Rattle.std.proofs.Common.{sym}
-use Rattle.nir_index.proofs.NotedLemmas.{counted-nil, counted-two}
+use Rattle.nir_index.proofs.TallyLemmas.{counted-nil, counted-two}
 use Rattle.nir_index.proofs.index.count_reads.Goals as goal
 
 pub returns-in-Const : goal.returns-in-Const

@@ -1,7 +1,7 @@
 use Rattle.std.proofs.Common.{◌+◌, ◌∙◌, ap, drop, map}
 use Rattle.nir_ir.specs.declared.node.PhiSource.{PhiSource}
 use Rattle.nir_index.specs.Index.{counted}
-use Rattle.nir_index.proofs.NotedLemmas.{counted-end, counted-step_get}
+use Rattle.nir_index.proofs.TallyLemmas.{counted-end, counted-step_get}
 use Rattle.nir_index.proofs.index.count_sources.Goals as goal
 
 pub loop-source-preserved : goal.loop-source-preserved

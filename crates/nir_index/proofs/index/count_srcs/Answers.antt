@@ -1,7 +1,7 @@
 use Rattle.std.proofs.Common.{◌+◌, ◌∙◌, ap, drop, map}
 use Rattle.nir_ir.specs.declared.instr.Src.{Src}
 use Rattle.nir_index.specs.Index.{counted}
-use Rattle.nir_index.proofs.NotedLemmas.{counted-end, counted-step}
+use Rattle.nir_index.proofs.TallyLemmas.{counted-end, counted-step}
 use Rattle.nir_index.proofs.index.count_srcs.Goals as goal
 
 pub loop-src-preserved : goal.loop-src-preserved

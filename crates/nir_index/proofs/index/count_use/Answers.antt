@@ -1,6 +1,6 @@
 use Rattle.std.proofs.Common.{◌+◌, ◌≤◌, set, ap, sym, subst, ◌∙◌}
 use Rattle.std.proofs.lemmas.Option.{get_or_from_slice_get, slice_get_within}
-use Rattle.nir_index.proofs.NotedLemmas.{counted-one, counted-past}
+use Rattle.nir_index.proofs.TallyLemmas.{counted-one, counted-past}
 use Rattle.nir_index.proofs.index.count_use.Goals as goal
 
 pub returns-in-Some : goal.returns-in-Some
