@@ -5,6 +5,7 @@ ghost use Rattle.std.specs.Option.{option_copied};
 ghost use Rattle.nir_ir.specs.Definitions.{instr_defining, phi_defining, kind_at};
 ghost use Rattle.nir_ir.specs.Shaped.{IsShaped};
 ghost use Rattle.nir_ir.specs.Uses.{use_count};
+ghost use Rattle.nir_tree.specs.Users.{AreUsers};
 ghost use Rattle.nir_validate.specs.Valid.{Valid};
 ghost use Rattle.rule_term.specs.Rule.{Rule as Whole};
 ghost use Rattle.nir_search.specs.Work.{Fits, MayReplace, replaced_by};
@@ -12,7 +13,7 @@ ghost use Rattle.nir_search.specs.Work.{Fits, MayReplace, replaced_by};
 use nir_host::OutOfMemory;
 use nir_index::Indexed;
 use nir_ir::{Instr, Instrs, Kind, Phi, Shader, ValueId};
-use nir_tree::copied;
+use nir_tree::{Uses, copied, users};
 use rule_term::Table;
 use std::alloc::Global;
 use std::marker::Model;
@@ -113,6 +114,13 @@ impl Work {
         ensures { result ≡ nat_eq (use_count value self.now.shader.body) 1 }
     {
         self.uses(value) == 1
+    }
+
+    /// Each use of the value once. `OutOfMemory` where there is no memory for the list. Linear in the size of the shader.
+    pub fn users(&self, alloc: Global, value: ValueId) -> Result<Uses, OutOfMemory>
+        ensures { IfOk result (λ uses. AreUsers value self.now.shader.body uses) }
+    {
+        users(alloc, self.indexed.shader(), value)
     }
 
     /// Puts the instructions in the place of the one that defines the value. `OutOfMemory` where there is no memory for it, or

@@ -1,1 +1,4 @@
 pub mod EditedLemmas
+pub mod ListedLemmas
+pub mod OpcodeLemmas
+pub mod UsersLemmas

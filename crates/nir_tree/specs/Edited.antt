@@ -3,7 +3,7 @@ use Rattle.std.specs.Prelude.{ℕ, List, [], ◌∷◌}
 use Rattle.std.specs.List.{flat_map}
 use Rattle.nir_ir.specs.declared.instr.Instr.{Instr}
 use Rattle.nir_ir.specs.declared.node.Block.{Block}
-use Rattle.nir_ir.specs.Edits.{in_place_of, replaced, replaced_in_block, with_news}
+use Rattle.nir_ir.specs.Edits.{in_place_of, replaced, replaced_in_block}
 use Rattle.nir_ir.specs.Nodes.{Nodes}
 use Rattle.nir_ir.specs.Shader.{Shader}
 use Rattle.nir_tree.specs.declared.copy.Edit.{Edit}

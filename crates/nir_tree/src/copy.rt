@@ -1,6 +1,6 @@
 //! Copies of a whole shader, with other instructions in the place of the one that defines a value.
 
-ghost use Rattle.std.specs.Prelude.{◌≡◌, [], ◌∷◌, ◌++◌, IfOk, OnErr, OnOk};
+ghost use Rattle.std.specs.Prelude.{◌≡◌, [], ◌∷◌, ◌++◌, IfOk, OnOk};
 ghost use Rattle.nir_ir.specs.Definitions.{is_target};
 ghost use Rattle.nir_ir.specs.Edits.{with_news};
 ghost use Rattle.nir_ir.specs.Nodes.{nodes_of};
