@@ -1,6 +1,6 @@
 -- The bit sizes that a match meets: one for each node of the search side, and where the rule stands at 8 bits alone they are of a typing where each is 8.
 use Rattle.op_eval.specs.Calls.{same_width}
-use Rattle.std.specs.Prelude.{◌≡◌, refl, ◌+◌, ℕ, suc, List, [], ◌∷◌, Bool, true, false, ◌&&◌, ◌||◌, length, replicate, drop}
+use Rattle.std.specs.Prelude.{◌≡◌, refl, ◌+◌, ℕ, suc, List, [], ◌∷◌, true, ◌&&◌, length, replicate, drop}
 use Rattle.std.proofs.Common.{sym, ◌∙◌, ap, arith}
 use Rattle.std.proofs.lemmas.List.{take-replicate, length-append}
 use Rattle.std.specs.List.{list_all, list_any}

@@ -1,6 +1,5 @@
-use Rattle.std.proofs.Common.{◌≤◌, ◌<◌, ◌+◌, ◌∙◌, sym, subst, arith, length, take}
+use Rattle.std.proofs.Common.{◌<◌, ◌+◌, ◌∙◌, sym, subst, arith, length}
 use Rattle.std.proofs.lemmas.List.Sums.{sum_by-take-le}
-use Rattle.nir_search.specs.First.{table_variants}
 use Rattle.rule_term.specs.Variants.{variant_count}
 use Rattle.nir_search.proofs.FirstLemmas.{rule_found, rule_passed, rule_there, sum_next}
 use Rattle.nir_search.proofs.first.first_match.Goals as goal
