@@ -1,5 +1,5 @@
 -- An index that is kept up where instructions take the place of one says of each value what is so then.
-use Rattle.std.proofs.Common.{◌≡◌, refl, ℕ, zero, suc, ◌+◌, ◌-◌, ◌<◌, ◌≤◌, ⊎_elim, Bool, true, false, cond, List, [], ◌∷◌, ◌++◌, length, map, set, get_or, sym, ◌∙◌, ap, subst, arith, zero-add, append-nil}
+use Rattle.std.proofs.Common.{◌≡◌, refl, ℕ, zero, suc, ◌+◌, ◌-◌, ◌<◌, ◌≤◌, ⊎_elim, false, cond, List, [], ◌∷◌, ◌++◌, length, set, get_or, sym, ◌∙◌, ap, subst, arith, zero-add, append-nil}
 use Rattle.std.specs.Prelude.{Option, Some, None, Result, Ok, Err, OnErr, slice_get, slice_index, nat_eq, count_by, replicate, ◌||◌, IsSome}
 use Rattle.std.specs.List.{find, flat_map, list_any}
 use Rattle.std.specs.Option.{option_and_then, option_map, option_or, option_to_list, unwrap_or}
@@ -21,10 +21,10 @@ use Rattle.nir_ir.specs.Uses.{is_value, use_count}
 use Rattle.edit_laws.specs.ItemsLaws.{value_defined}
 use Rattle.edit_laws.specs.KindsLaws.{defining_placed, phis-placed}
 use Rattle.edit_laws.specs.NumbersLaws.{member_has}
-use Rattle.edit_laws.specs.UsesLaws.{no_instr, no_phi, no_use, uses_placed}
+use Rattle.edit_laws.specs.UsesLaws.{no_instr, no_use, uses_placed}
 use Rattle.nir_index.specs.declared.index.Definer.{Definer}
 use Rattle.nir_index.specs.declared.index.Index.{Index}
-use Rattle.nir_index.specs.Index.{IsIndex, IsLonger, by_place, counted, exchange_of, exchanged, known_instr, lengthened, newly, numbered, uncounted, unknown}
+use Rattle.nir_index.specs.Index.{IsIndex, IsLonger, by_place, exchange_of, exchanged, known_instr, lengthened, newly, numbered, unknown}
 use Rattle.nir_index.proofs.IndexLemmas.{past_all}
 use Rattle.nir_index.proofs.PlaceLemmas.{place-kept, place-one, place-past, place-same, place-twice, slice_get-place, slice_get-replicate, slice_get-replicate_past}
 

@@ -1,15 +1,14 @@
 -- An index while it is made, item by item.
-use Rattle.std.proofs.Common.{◌≡◌, refl, ℕ, ◌+◌, ◌<◌, ◌≤◌, Bool, false, cond, List, [], ◌∷◌, ◌++◌, length, map, drop, set, get_or, sym, ◌∙◌, ap, subst, arith, add_assoc, add-zero, zero-add}
-use Rattle.std.proofs.lemmas.Option.{get_or_from_slice_get, slice_get-get_or, slice_get_within}
+use Rattle.std.proofs.Common.{◌≡◌, refl, ℕ, ◌+◌, ◌<◌, ◌≤◌, false, cond, List, [], ◌∷◌, ◌++◌, length, map, drop, set, get_or, sym, ◌∙◌, ap, subst, zero-add}
+use Rattle.std.proofs.lemmas.Option.{get_or_from_slice_get, slice_get_within}
 use Rattle.nir_ir.specs.EditsShaped.{is_target-of}
-use Rattle.std.specs.Prelude.{Option, Some, None, Result, IfOk, slice_get, nat_eq, count_by, ◌||◌}
+use Rattle.std.specs.Prelude.{Option, Some, None, Result, IfOk, slice_get, nat_eq, ◌||◌}
 use Rattle.std.specs.List.{find, flat_map, list_any}
 use Rattle.std.specs.Option.{option_map, option_or, option_to_list}
 use Rattle.std.proofs.lemmas.Bool.{eq-eqb, ne_eqb}
 use Rattle.std.proofs.lemmas.Grind.{flat_map-append}
 use Rattle.std.proofs.lemmas.List.{drop_all, drop_more}
 use Rattle.std.proofs.lemmas.List.Folds.{find-append}
-use Rattle.std.proofs.lemmas.List.Sums.{sum_by-append}
 use Rattle.list_laws.specs.OptionLaws.{option_or-assoc, option_or-none}
 use Rattle.nir_ir.specs.declared.ids.IfId.{IfId}
 use Rattle.nir_ir.specs.declared.ids.LoopId.{LoopId}
@@ -25,7 +24,6 @@ use Rattle.nir_ir.specs.Definitions.{instr_of, is_phi_of, is_target, phi_of}
 use Rattle.nir_ir.specs.Items.{Item, BlockHead, PhiItem, InstrItem, JumpItem, IfHead, block_items, items, target, uses}
 use Rattle.nir_ir.specs.Nodes.{nodes_of}
 use Rattle.nir_ir.specs.Splits.{items-block, items-drop, items-if, items-loop}
-use Rattle.nir_ir.specs.Uses.{is_value}
 use Rattle.nir_index.specs.declared.index.Definer.{Definer}
 use Rattle.nir_index.specs.declared.index.Index.{Index}
 use Rattle.nir_index.specs.Index.{counted, known_or, noted, numbered, told}

@@ -116,8 +116,7 @@ impl Work {
         self.uses(value) == 1
     }
 
-    /// Each use of the value once, in text order. `OutOfMemory` where there is no memory for the list. Linear in the size of
-    /// the shader.
+    /// Each use of the value once. `OutOfMemory` where there is no memory for the list. Linear in the size of the shader.
     pub fn users(&self, alloc: Global, value: ValueId) -> Result<Uses, OutOfMemory>
         ensures { IfOk result (λ uses. AreUsers value self.now.shader.body uses) }
     {

@@ -1,4 +1,4 @@
-use Rattle.std.proofs.Common.{◌≡◌, ◌+◌, ◌∙◌, ap, drop}
+use Rattle.std.proofs.Common.{◌+◌, ◌∙◌, ap, drop}
 use Rattle.std.specs.List.{flat_map}
 use Rattle.nir_ir.specs.Items.{reads}
 use Rattle.nir_index.specs.Index.{counted}

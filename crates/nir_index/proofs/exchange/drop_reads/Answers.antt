@@ -1,4 +1,4 @@
-use Rattle.std.proofs.Common.{◌≡◌, ◌∙◌, [], ◌∷◌, ap, sym}
+use Rattle.std.proofs.Common.{◌∙◌, [], ◌∷◌, ap, sym}
 use Rattle.nir_ir.specs.Items.{reads}
 use Rattle.nir_index.specs.Index.{uncounted}
 use Rattle.nir_index.proofs.TallyLemmas.{uncounted-nil, uncounted-two}

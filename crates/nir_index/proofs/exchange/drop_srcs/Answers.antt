@@ -1,4 +1,4 @@
-use Rattle.std.proofs.Common.{◌≡◌, ◌+◌, ◌∙◌, ap, drop, map}
+use Rattle.std.proofs.Common.{◌+◌, ◌∙◌, ap, drop, map}
 use Rattle.nir_ir.specs.declared.instr.Src.{Src}
 use Rattle.nir_index.specs.Index.{uncounted}
 use Rattle.nir_index.proofs.TallyLemmas.{uncounted-end, uncounted-step}

@@ -1,4 +1,4 @@
-use Rattle.std.proofs.Common.{◌≡◌, ◌∙◌, [], ◌∷◌, ap, sym}
+use Rattle.std.proofs.Common.{◌∙◌, [], ◌∷◌, ap, sym}
 use Rattle.nir_index.specs.Index.{exchanged}
 use Rattle.nir_index.proofs.ExchangeLemmas.{empty_last, exchanged-append, exchanged-nil}
 use Rattle.nir_index.proofs.exchange.exchange_definers.Goals as goal
