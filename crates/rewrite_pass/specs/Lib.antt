@@ -1,2 +1,1 @@
-pub mod Rewriting
-pub mod RewritingLaws
+pub mod Building
