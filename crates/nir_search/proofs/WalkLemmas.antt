@@ -1,13 +1,17 @@
 -- How a match goes along a list of terms: the first, and then the others.
 use Rattle.nir_ir.specs.Definitions.{width_at}
-use Rattle.std.specs.Prelude.{◌≡◌, refl, ◌<◌, ◌≤◌, ◌+◌, ℕ, suc, List, [], ◌∷◌, ◌++◌, Option, Some, None, Bool, true, false, ◌&&◌, length, drop, if◌then◌else◌}
+use Rattle.std.specs.Prelude.{◌≡◌, refl, ◌<◌, ◌≤◌, ◌+◌, ℕ, ℤ, suc, List, [], ◌∷◌, ◌++◌, Option, Some, None, Bool, true, false, length, drop, is_some, if◌then◌else◌}
 use Rattle.std.proofs.Common.{sym, ◌∙◌, ap, subst, get_or, arith}
-use Rattle.std.specs.Option.{option_and_then}
+use Rattle.std.specs.Option.{option_and_then, option_map}
 use Rattle.std.proofs.Common.{append_assoc, drop-drop}
+use Rattle.std.proofs.lemmas.List.{append-nil}
+use Rattle.nir_ops.specs.declared.op.Op.{Op}
 use Rattle.nir_ops.specs.declared.width.Width.{Width}
 use Rattle.nir_ir.specs.Nodes.{Nodes}
 use Rattle.rule_term.specs.declared.term.Term.{Term, Term-F, out-Term, map-Term}
 use Rattle.rule_term.specs.declared.term.Term.TheOpen as layer
+use Rattle.rule_term.specs.declared.term.Term.TheVariants as term
+use Rattle.rule_term.specs.declared.cond.Cond.{Cond}
 use Rattle.rule_term.specs.Terms.{Terms, Nil, VarThen, LitThen, AppThen, before, before_layer, before-out, terms_of}
 use Rattle.rule_term.specs.Lists as lists
 use Rattle.rule_term.specs.Lists.{terms_of-drop, terms_of-var, terms_of-lit, terms_of-app}
@@ -143,6 +147,36 @@ bits_at list i t bits within at =
     ap (λ terms. bits_behind terms bits) (terms_of-drop list i t within at)
     ∙ bits_behind-then (terms_of (t ∷ [])) (terms_of (drop (i + 1) list)) bits
 
+-- what one term meets, and what it leaves of the bits
+pub met_var : (body : Nodes) (t : Term) (var : ℕ) (constant : Bool) (size : Option Width) (cond : Option Cond) (bits : ℕ) (view : Bind) → t ≡ term.Var var constant size cond
+    → met body (terms_of (t ∷ [])) bits (view ∷ []) ≡ width_at body view.value ∷ []
+met_var body t var constant size cond bits view is = ap (λ t. met body (terms_of (t ∷ [])) bits (view ∷ [])) is ∙ ap (λ l. met body l bits (view ∷ [])) (terms_of-var var constant size cond)
+
+pub met_lit : (body : Nodes) (t : Term) (value : ℤ) (boolean : Bool) (bits : ℕ) (view : Bind) → t ≡ term.Lit value boolean
+    → met body (terms_of (t ∷ [])) bits (view ∷ []) ≡ width_at body view.value ∷ []
+met_lit body t value boolean bits view is = ap (λ t. met body (terms_of (t ∷ [])) bits (view ∷ [])) is ∙ ap (λ l. met body l bits (view ∷ [])) (terms_of-lit value boolean)
+
+pub met_app : (body : Nodes) (t : Term) (op : Op) (size : Option Width) (once : Bool) (args : List Term) (bits : ℕ) (view : Bind) → t ≡ term.App op size once args
+    → met body (terms_of (t ∷ [])) bits (view ∷ [])
+    ≡ width_at body view.value ∷ met body (terms_of args) (bits_left op bits) (children body (is_swapped op bits) view)
+met_app body t op size once args bits view is =
+    ap (λ t. met body (terms_of (t ∷ [])) bits (view ∷ [])) is
+    ∙ ap (λ l. met body l bits (view ∷ [])) (terms_of-app op size once args)
+    ∙ cons_same (width_at body view.value) (append-nil (met body (terms_of args) (bits_left op bits) (children body (is_swapped op bits) view)))
+
+pub bits_var : (t : Term) (var : ℕ) (constant : Bool) (size : Option Width) (cond : Option Cond) (bits : ℕ) → t ≡ term.Var var constant size cond → bits_behind (terms_of (t ∷ [])) bits ≡ bits
+bits_var t var constant size cond bits is = ap (λ t. bits_behind (terms_of (t ∷ [])) bits) is ∙ ap (λ l. bits_behind l bits) (terms_of-var var constant size cond)
+
+pub bits_lit : (t : Term) (value : ℤ) (boolean : Bool) (bits : ℕ) → t ≡ term.Lit value boolean → bits_behind (terms_of (t ∷ [])) bits ≡ bits
+bits_lit t value boolean bits is = ap (λ t. bits_behind (terms_of (t ∷ [])) bits) is ∙ ap (λ l. bits_behind l bits) (terms_of-lit value boolean)
+
+pub bits_app : (t : Term) (op : Op) (size : Option Width) (once : Bool) (args : List Term) (bits : ℕ) → t ≡ term.App op size once args
+    → bits_behind (terms_of (t ∷ [])) bits ≡ bits_behind (terms_of args) (bits_left op bits)
+bits_app t op size once args bits is = ap (λ t. bits_behind (terms_of (t ∷ [])) bits) is ∙ ap (λ l. bits_behind l bits) (terms_of-app op size once args)
+
+pub size_app : (t : Term) (op : Op) (size : Option Width) (once : Bool) (args : List Term) → t ≡ term.App op size once args → size_of (terms_of (t ∷ [])) ≡ suc (size_of (terms_of args) + 0)
+size_app t op size once args is = ap (λ t. size_of (terms_of (t ∷ []))) is ∙ ap size_of (terms_of-app op size once args)
+
 -- the sizes met so far, and those that are met behind a term
 pub met_on : (body : Nodes) (list : List Term) (i : ℕ) (t : Term) (view : Bind) (bits left : ℕ) (views : List Bind) (before after : List Width)
     → i < length list → t ≡ get_or list i t → view ≡ front (drop i views)
@@ -157,6 +191,11 @@ met_on body list i t view bits left views before after within at is same grown =
     (ap (λ v. met body one bits (v ∷ []) ++ behind left) is
     ∙ ap (λ b. met body one bits (front (drop i views) ∷ []) ++ behind b) same
     ∙ sym (met_at body list i t bits views within at))
+
+-- whether something is there does not depend on how it is seen
+pub some_as : {A B : Type 0} (f : A → B) (o : Option A) → is_some o ≡ is_some (option_map f o)
+some_as f None = refl
+some_as f (Some a) = refl
 
 -- a list of terms has a node for each
 terms_nodes : (terms : Terms) → terms_count terms ≤ size_of terms

@@ -30,13 +30,13 @@ some_mapped : {A B : Type 0} (f : A → B) (o : Option A) → is_some (option_ma
 some_mapped f None = refl
 some_mapped f (Some a) = refl
 
+some_first : {A : Type 0} (a : A) (more : Option A) (any here : Bool) → is_some more ≡ any → is_some (if here then Some a else more) ≡ (here || any)
+some_first a more any true same = refl
+some_first a more any false same = same
+
 some_found : {A : Type 0} (test : A → Bool) (list : List A) → is_some (find test list) ≡ list_any test list
 some_found test [] = refl
-some_found test (a ∷ list) = here (test a)
-  where
-    here : (b : Bool) → is_some (if b then Some a else find test list) ≡ (b || list_any test list)
-    here true = refl
-    here false = some_found test list
+some_found test (a ∷ list) = some_first a (find test list) (list_any test list) (test a) (some_found test list)
 
 pub is_typed_found : (rule : Rule) (widths : List Width) → is_some (replace_for rule widths) ≡ is_typed rule widths
 unfolding is_typed replace_for

@@ -1,10 +1,11 @@
 -- The shader in work, as contracts see it, and the instructions that may take the place of one of its own.
-use Rattle.std.specs.Prelude.{ℕ, ◌+◌, ◌-◌, ◌<◌, ◌^◌, List, length, IsSome}
+use Rattle.std.specs.Coded.{Coded, code_by}
+use Rattle.std.specs.Prelude.{refl, ℕ, ◌+◌, ◌-◌, ◌<◌, ◌^◌, List, length, IsSome}
 use Rattle.nir_ir.specs.declared.ids.ValueId.{ValueId}
 use Rattle.nir_ir.specs.declared.instr.Instr.{Instr}
 use Rattle.nir_ir.specs.Definitions.{instr_defining}
 use Rattle.nir_ir.specs.Edits.{ArePlaced, with_news}
-use Rattle.nir_ir.specs.Shader.{Shader}
+use Rattle.nir_ir.specs.Shader.{Shader, shader_code}
 use Rattle.nir_ir.specs.Shaped.{IsShaped}
 use Rattle.nir_validate.specs.Valid.{Valid}
 use Rattle.rule_term.specs.Rule.{Rule}
@@ -12,6 +13,10 @@ use Rattle.rule_term.specs.Rule.{Rule}
 -- what is in work
 pub record InWork : Type 0 where
   pub shader : Shader
+
+-- a work is told by its shader
+abbrev pub work_code : Coded InWork
+work_code = code_by Shader shader_code (λ work. work.shader) (λ s. record { shader = s }) (λ work. refl)
 
 -- what a work keeps by its type
 pub record IsKept (work : InWork) : Type 0 where

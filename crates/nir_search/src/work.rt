@@ -22,9 +22,11 @@ pub struct Work {
 }
 
 impl Model for Work {
-    ghost use Rattle.nir_search.specs.Work.{InWork, IsKept};
+    ghost use Rattle.nir_search.specs.Work.{InWork, IsKept, work_code};
 
     ghost Value = { InWork };
+
+    ghost coded = { work_code };
 
     ghost view = { λ w. record { shader = w.shader } };
 
