@@ -1,4 +1,9 @@
-//! The step by a rule.
+//! The step by a rule: what a rule found is replaced, until no rule is left to find anything.
 #![tactic(auto)]
 
 mod build;
+mod rewrite;
+mod rounds;
+
+pub use rewrite::rewrite_at;
+pub use rounds::rewrite_all;
