@@ -11,7 +11,7 @@ use Rattle.nir_ir.specs.declared.ids.ValueId.{ValueId}
 use Rattle.nir_ir.specs.declared.kind.Kind.{Kind}
 use Rattle.nir_ir.specs.declared.instr.Src.{Src}
 use Rattle.nir_ir.specs.declared.instr.Instr.{Instr}
-use Rattle.nir_ir.specs.declared.instr.Instr.TheVariants.{Alu, Const}
+use Rattle.nir_ir.specs.declared.instr.Instr.TheVariants.{Alu}
 use Rattle.rule_term.specs.declared.cond.Cond.{Cond}
 use Rattle.rule_term.specs.declared.term.Term.{Term, Term-F, out-Term, map-Term}
 use Rattle.rule_term.specs.declared.term.Term.TheOpen as layer
@@ -61,20 +61,6 @@ module _ (subst : List Bind) (count : ℕ) where
       (made-then rest b behind (suc inner.next) ∙ ap (λ l. both first (made subst count b l first.next)) (drop_behind (size_of rest) (size_of args) widths))
       ∙ ap (λ (l : List Instr). record { instrs = l; sources = whole_source id count ∷ first.sources ++ second.sources; next = second.next })
       (sym (append_assoc inner.instrs (own ∷ first.instrs) second.instrs))
-
-  -- each node takes one fresh number at most
-  pub made_next : (terms : Terms) (widths : List Width) (next : ℕ) → (made subst count terms widths next).next ≤ next + size_of terms
-  made_next Nil widths next = omega arith
-  made_next (VarThen var constant size cond rest) widths next =
-      let more = made_next rest (drop 1 widths) next in
-      omega (arith, more)
-  made_next (LitThen number boolean rest) widths next =
-      let more = made_next rest (drop 1 widths) (suc next) in
-      omega (arith, more)
-  made_next (AppThen op size once args rest) widths next =
-      let inner = made_next args (drop 1 widths) next in
-      let more = made_next rest (drop (suc (size_of args)) widths) (suc (made subst count args (drop 1 widths) next).next) in
-      omega (arith, inner, more)
 
   -- a list of one term
   pub made-var : (t : Term) (var : ℕ) (constant : Bool) (size : Option Width) (cond : Option Cond) (widths : List Width) (next : ℕ) → t ≡ term.Var var constant size cond

@@ -1,5 +1,5 @@
 -- Steps behind steps, and no steps.
-use Rattle.std.specs.Prelude.{◌≡◌, refl, ◌+◌, ◌*◌, ◌≤◌, ℕ, suc, List, [], ◌∷◌, ◌++◌, length, Some, true}
+use Rattle.std.specs.Prelude.{◌≡◌, refl, ◌+◌, ℕ, List, [], ◌∷◌, ◌++◌, length, Some}
 use Rattle.std.specs.Option.{option_and_then}
 use Rattle.std.proofs.Common.{sym, ◌∙◌, ap, append_assoc, arith}
 use Rattle.std.proofs.lemmas.List.{append-nil, length-append}
@@ -10,10 +10,9 @@ use Rattle.nir_ir.specs.Shaped.{IsShaped}
 use Rattle.nir_validate.specs.Valid.{Valid}
 use Rattle.rule_term.specs.declared.when.Options.{Options}
 use Rattle.rule_term.specs.Rule.{Rule}
-use Rattle.rule_term.specs.Table.{AllFormed, AllHold, Table, op_weight}
+use Rattle.rule_term.specs.Table.{AllFormed, AllHold, Table}
 use Rattle.nir_search.specs.FirstLaws.{replay-append}
 use Rattle.nir_search.specs.Steps.{replay}
-use Rattle.nir_search.specs.Weight.{weight_of}
 use Rattle.run_laws.specs.InPlace.{Keeps}
 use Rattle.rule_meaning.specs.StepSame.{replay_same}
 use Rattle.rewrite_pass.specs.Rewriting.{Advances, Rewrites}

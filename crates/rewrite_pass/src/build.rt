@@ -176,12 +176,7 @@ fn one_instr(alloc: Global, instr: Instr) -> Result<Instrs, OutOfMemory>
 }
 
 /// A view in each place, as one instruction.
-fn mov_instr(
-    alloc: Global,
-    value: ValueId,
-    kind: Kind,
-    src: Src,
-) -> Result<Instr, OutOfMemory>
+fn mov_instr(alloc: Global, value: ValueId, kind: Kind, src: Src) -> Result<Instr, OutOfMemory>
     ensures { IfOk result (λ instr. instr ≡ Instr.Alu value Op.Mov kind (src ∷ [])) }
 {
     let mut srcs = Srcs::new(alloc);

@@ -1,12 +1,13 @@
-use Rattle.std.proofs.Common.{rules, ◌≡◌, ◌∙◌, sym, ap, ◌+◌, ◌≤◌, [], ◌∷◌, ◌++◌, drop, append_assoc, to_z, of_z, arith}
+use Rattle.std.proofs.Common.{rules, ◌≡◌, ◌∙◌, sym, ap, ◌+◌, [], ◌∷◌, ◌++◌, drop, append_assoc, to_z, of_z, arith}
 use Rattle.std.specs.Int.{w128}
 use denote.Param.Weighed.{at_most}
 use Rattle.rule_term.specs.declared.term.Term.{the_lemmas}
 use Rattle.rule_term.specs.Terms.{Nil, terms_of}
 use Rattle.rule_term.specs.Typings.{size_of}
 use Rattle.nir_search.specs.Put.{Made}
+use Rattle.rule_meaning.specs.RowLaws.{made_next}
 use Rattle.rewrite_pass.specs.Building.{made_on}
-use Rattle.rewrite_pass.proofs.BuildLemmas.{built_at, builds_app, builds_lit, builds_var, made_next, size_of-at, size_of-drop, some_node}
+use Rattle.rewrite_pass.proofs.BuildLemmas.{built_at, builds_app, builds_lit, builds_var, size_of-at, size_of-drop, some_node}
 use Rattle.rewrite_pass.proofs.build.+build.Goals as goal
 
 pub build_term-bounds-widths-building : goal.build_term-bounds-widths-building

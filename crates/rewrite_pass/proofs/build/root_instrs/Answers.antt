@@ -1,4 +1,4 @@
-use Rattle.std.proofs.Common.{rules, ◌≡◌, refl, ◌∙◌, sym, ap, ◌+◌, ◌≤◌, [], ◌∷◌, ◌++◌, to_z, of_z, arith}
+use Rattle.std.proofs.Common.{rules, ◌≡◌, refl, ◌∙◌, ap, [], ◌∷◌, to_z, of_z, arith}
 use Rattle.std.specs.Int.{w128}
 use Rattle.rule_term.specs.Terms.{Nil, terms_of}
 use Rattle.rule_term.specs.Typings.{size_of}

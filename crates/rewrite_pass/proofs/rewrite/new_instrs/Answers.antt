@@ -1,6 +1,5 @@
-use Rattle.std.proofs.Common.{rules, ◌≡◌, ◌∙◌, sym, ap, subst, ◌≤◌, [], ◌∷◌, length, None, Some, arith}
+use Rattle.std.proofs.Common.{rules, ◌≡◌, ◌∙◌, sym, ap, subst, [], ◌∷◌, length, None, Some, arith}
 use Rattle.std.proofs.lemmas.Option.{none-some}
-use Rattle.nir_ir.specs.declared.instr.Instr.{Instr}
 use Rattle.rule_term.specs.FewNodes.{few_replaced}
 use Rattle.rule_term.specs.Formed.{IsFormed}
 use Rattle.rule_term.specs.Replaced.{replace_for}

@@ -1,4 +1,4 @@
-use Rattle.std.proofs.Common.{◌≡◌, ◌∙◌, sym, ap, subst, ◌+◌, ◌≤◌}
+use Rattle.std.proofs.Common.{sym, subst, ◌+◌, ◌≤◌}
 use Rattle.nir_ir.specs.Shader.{Shader}
 use Rattle.nir_validate.specs.Valid.{Valid}
 use Rattle.nir_mean.specs.Same.{Same}

@@ -1,4 +1,4 @@
-use Rattle.std.proofs.Common.{◌≡◌, ◌∙◌, sym, subst, ◌+◌, ◌<◌, ◌≤◌, ℕ, None, true, arith}
+use Rattle.std.proofs.Common.{◌≡◌, ◌∙◌, sym, subst, ◌≤◌, None, true, arith}
 use Rattle.nir_search.specs.First.{first_hit}
 use Rattle.nir_search.specs.FirstLaws.{settled_below}
 use Rattle.nir_search.specs.Steps.{is_settled}

@@ -1,4 +1,4 @@
-use Rattle.std.proofs.Common.{◌≡◌, ◌+◌, ◌≤◌, true, arith, rules}
+use Rattle.std.proofs.Common.{◌≡◌, ◌≤◌, true, arith, rules}
 use Rattle.nir_search.specs.Steps.{is_settled}
 use Rattle.rewrite_pass.specs.RewritingLaws.{advances_then, rewrites_keep, rewrites_then}
 use Rattle.rewrite_pass.proofs.RoundsLemmas.{limit_or}
