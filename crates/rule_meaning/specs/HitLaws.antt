@@ -1,5 +1,5 @@
 -- What a match says of what is put: the sizes of the replacement, the instructions, how few they are, and how light.
-use Rattle.std.specs.Prelude.{◌≡◌, refl, ◌+◌, ◌-◌, ◌<◌, ◌≤◌, ◌^◌, ◌&&◌, ℕ, suc, true, Option, Some, None, List, [], ◌∷◌, ◌++◌, length, drop, nat_eq, slice_get, IsSome, sum_by}
+use Rattle.std.specs.Prelude.{◌≡◌, refl, ◌+◌, ◌<◌, ◌≤◌, ◌^◌, ◌&&◌, ℕ, true, Option, Some, List, [], ◌∷◌, ◌++◌, length, drop, nat_eq, slice_get, IsSome, sum_by}
 use Rattle.std.proofs.Common.{sym, ◌∙◌, ap, subst, arith}
 use Rattle.std.proofs.lemmas.Bool.{and_parts, eqb-true, ltb-true}
 use Rattle.std.proofs.lemmas.List.{length-append, length-drop}
@@ -13,12 +13,10 @@ use Rattle.op_eval.specs.Calls.{same_width}
 use Rattle.nir_ir.specs.declared.ids.ValueId.{ValueId}
 use Rattle.nir_ir.specs.declared.instr.Instr.{Instr}
 use Rattle.nir_ir.specs.declared.instr.Instr.TheVariants.{Alu}
-use Rattle.nir_ir.specs.Definitions.{instr_defining}
 use Rattle.nir_ir.specs.Edits.{ArePlaced, with_news}
 use Rattle.nir_ir.specs.Shader.{Shader}
 use Rattle.nir_ir.specs.Shaped.{IsShaped}
 use Rattle.nir_validate.specs.Valid.{Valid}
-use Rattle.nir_mean.specs.Same.{Same}
 use Rattle.run_laws.specs.InPlace.{Keeps}
 use Rattle.rule_term.specs.Descending.{descends, is_descending, root_weight, terms_weight}
 use Rattle.rule_term.specs.FewNodes.{few_replaced}
@@ -31,7 +29,7 @@ use Rattle.rule_term.specs.Terms.{Terms, Nil, VarThen, LitThen, AppThen}
 use Rattle.rule_term.specs.Typings.{agree, first_of, is_typing, obeys, occurrences, replace_part, search_part, size_of}
 use Rattle.nir_search.specs.declared.hit.Bind.{Bind}
 use Rattle.nir_search.specs.declared.hit.Hit.{Hit}
-use Rattle.nir_search.specs.Match.{match_of, met, root_view}
+use Rattle.nir_search.specs.Match.{match_of, root_view}
 use Rattle.nir_search.specs.Put.{Root, made, root_of}
 use Rattle.nir_search.specs.Steps.{IsHit, count_of, put, put_hit, put_typed}
 use Rattle.nir_search.specs.Weight.{instr_weight, weight_of}

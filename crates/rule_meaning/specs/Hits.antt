@@ -1,14 +1,10 @@
--- What a match says: at its root stands an ALU instruction that is no move, and the variables of the rule are bound.
-use Rattle.std.specs.Prelude.{◌<◌, ◌≡◌, refl, ◌+◌, ℕ, List, [], ◌∷◌, ◌++◌, length, replicate, Option, Some, None, Bool, true, false, not, ◌&&◌, cond, nat_eq}
+-- What a match says: at its root stands an ALU instruction, and the variables of the rule are bound.
+use Rattle.std.specs.Prelude.{◌<◌, ◌≡◌, refl, ℕ, List, [], ◌∷◌, replicate, Option, Some, None, true, cond}
 use Rattle.std.proofs.Common.{sym, ◌∙◌, ap, subst}
 use Rattle.std.proofs.lemmas.Bool.{and_parts, false≢true}
-use Rattle.std.specs.List.{list_all}
 use Rattle.std.specs.Option.{option_and_then, option_map, option_map_or, option_or}
 use Rattle.list_laws.specs.OptionLaws.{if_some}
 use Rattle.nir_ops.specs.declared.op.Op.{Op}
-use Rattle.nir_ops.specs.Opcodes.{op_info}
-use Rattle.nir_ops.specs.contracts.op.Op as op_row
-use denote.Enum.Bare.{same_true}
 use Rattle.nir_ir.specs.declared.ids.ValueId.{ValueId}
 use Rattle.nir_ir.specs.declared.kind.Kind.{Kind}
 use Rattle.nir_ir.specs.declared.instr.Src.{Src}
@@ -19,11 +15,9 @@ use Rattle.nir_ir.specs.Definitions.{alu_at, kind_at, kind_of_target, phi_defini
 use Rattle.nir_ir.specs.Nodes.{Nodes}
 use Rattle.nir_ir.specs.Shader.{Shader}
 use Rattle.nir_ir.specs.Shaped.{IsCount, IsShaped}
-use Rattle.rule_term.specs.Formed.{IsFormed, is_application, is_each_place, is_mov, may_stand, search_piece_formed}
-use Rattle.rule_term.specs.Pieces.{pieces, terms_count}
+use Rattle.rule_term.specs.Formed.{IsFormed, is_application, search_piece_formed}
 use Rattle.rule_term.specs.Rule.{Rule}
 use Rattle.rule_term.specs.Terms.{Terms, Nil, VarThen, LitThen, AppThen}
-use Rattle.op_eval.specs.Views.{shape_of}
 use Rattle.nir_search.specs.declared.hit.Bind.{Bind}
 use Rattle.rule_term.specs.Variants.{bits_behind, bits_left, is_swapped}
 use Rattle.nir_search.specs.Put.{bound_to}
@@ -37,30 +31,21 @@ use Rattle.rule_meaning.specs.SourceViews.{IsView, sources_down, whole_swizzle}
 abbrev pub AreBound : List ℕ → List Bind → ℕ → Type 0
 AreBound defined binds vars = (var : ℕ) → var < vars → IsView defined (bound_to binds var)
 
--- The instruction at which a rule matches is an ALU instruction that is no move, and the variables of the rule are bound.
+-- The instruction at which a rule matches is an ALU instruction, and the variables of the rule are bound.
 
 pub record IsRoot (s : Shader) (value : ValueId) : Type 0 where
   pub op : Op
   pub srcs : List Src
   pub instr : FoundAlu s.body value (op, srcs)
   pub count : IsCount (count_of s value)
-  pub no_move : is_mov op ≡ false
-
-not_true : (a b : Bool) → (not a && b) ≡ true → a ≡ false
-not_true true b h = absurd (false≢true h)
-not_true false b h = refl
-
-stands_no_move : (op : Op) → may_stand op ≡ true → is_mov op ≡ false
-unfolding may_stand
-stands_no_move op h = not_true (is_mov op) (is_each_place (shape_of op)) h
 
 counted : (body : Nodes) (value : ValueId) (op : Op) (srcs : List Src) (found : FoundAlu body value (op, srcs)) → option_map_or (λ (kind : Kind). kind.count) (kind_at body value) 0 ≡ found.kind.count
 counted body value op srcs found =
     ap (λ (o : Option Instr). option_map_or (λ (kind : Kind). kind.count) (option_or (option_and_then kind_of_target o) (option_map (λ (phi : Phi). phi.kind) (phi_defining value body))) 0) found.is
 
-root_of_alu : (s : Shader) → IsShaped s → (value : ValueId) (op : Op) (found : Option (Op × List Src)) → alu_at s.body value ≡ found → has_op op found ≡ true → is_mov op ≡ false → IsRoot s value
-root_of_alu s shaped value op None is has still = absurd (false≢true has)
-root_of_alu s shaped value op (Some alu) is has still =
+root_of_alu : (s : Shader) → IsShaped s → (value : ValueId) (op : Op) (found : Option (Op × List Src)) → alu_at s.body value ≡ found → has_op op found ≡ true → IsRoot s value
+root_of_alu s shaped value op None is has = absurd (false≢true has)
+root_of_alu s shaped value op (Some alu) is has =
     let instr = found_alu s.body value alu is in
     let sound = found_sound s shaped value _ instr.is in
     record {
@@ -68,7 +53,6 @@ root_of_alu s shaped value op (Some alu) is has still =
       srcs = alu.1;
       instr = instr;
       count = subst IsCount (sym (counted s.body value alu.0 alu.1 instr)) sound.0.0;
-      no_move = ap is_mov (same_true op_row.the_type tt alu.0 op has) ∙ still;
     }
 
 pub record Matched (s : Shader) (value : ValueId) (vars : ℕ) (subst : List Bind) : Type 0 where
@@ -77,20 +61,18 @@ pub record Matched (s : Shader) (value : ValueId) (vars : ℕ) (subst : List Bin
 
 -- from the root of a match on
 root_from : (s : Shader) → IsShaped s → (value : ValueId) (terms : Terms) (bits : ℕ) (view : Bind) (before after : List (Option Bind)) → view.value ≡ value → is_application terms ≡ true
-    → list_all search_piece_formed (pieces terms) ≡ true → matches s.body terms bits (view ∷ []) before ≡ Some after → IsRoot s value
-root_from s shaped value Nil bits view before after own application formed h = absurd (false≢true application)
-root_from s shaped value (VarThen var constant size cond rest) bits view before after own application formed h = absurd (false≢true application)
-root_from s shaped value (LitThen number boolean rest) bits view before after own application formed h = absurd (false≢true application)
-root_from s shaped value (AppThen op size once args rest) bits view before after own application formed h =
+    → matches s.body terms bits (view ∷ []) before ≡ Some after → IsRoot s value
+root_from s shaped value Nil bits view before after own application h = absurd (false≢true application)
+root_from s shaped value (VarThen var constant size cond rest) bits view before after own application h = absurd (false≢true application)
+root_from s shaped value (LitThen number boolean rest) bits view before after own application h = absurd (false≢true application)
+root_from s shaped value (AppThen op size once args rest) bits view before after own application h =
     let applied = if_some (is_applied s.body op once view) (option_and_then (matches s.body rest (bits_behind args (bits_left op bits)) []) (matches s.body args (bits_left op bits) (children s.body (is_swapped op bits) view) before)) after h in
-    let parts = and_parts (may_stand op && nat_eq (terms_count args) (length (op_info op).inputs)) (list_all search_piece_formed (pieces args ++ pieces rest)) formed in
-    let here = and_parts (may_stand op) (nat_eq (terms_count args) (length (op_info op).inputs)) parts.0 in
-    root_of_alu s shaped value op (alu_at s.body value) refl (ap (λ v. has_op op (alu_at s.body v)) (sym own) ∙ (and_parts _ _ applied.0).0) (stands_no_move op here.0)
+    root_of_alu s shaped value op (alu_at s.body value) refl (ap (λ v. has_op op (alu_at s.body v)) (sym own) ∙ (and_parts _ _ applied.0).0)
 
 pub matched : (s : Shader) → IsShaped s → (rule : Rule) → IsFormed rule → (variant : ℕ) (value : ValueId) (binds : List Bind) → match_of rule variant s.body value ≡ Some binds → Matched s value rule.vars binds
 matched s shaped rule formed variant value binds h =
     let w = (walk_of rule variant s.body value binds h).walk in
-    let root = root_from s shaped value rule.search variant (root_view s.body value) (replicate rule.vars None) w.middle refl formed.application formed.search w.before in
+    let root = root_from s shaped value rule.search variant (root_view s.body value) (replicate rule.vars None) w.middle refl formed.application w.before in
     record {
       root = root;
       bound = match_bound s search_piece_formed (IsView (values_defined s.body)) (λ view is. sources_down s shaped view is.comps) rule formed formed.search variant value binds

@@ -1,7 +1,7 @@
 -- The weight of a shader where instructions take the place of one of its own, and of the instructions of a replacement.
-use Rattle.std.specs.Prelude.{◌≡◌, refl, ◌+◌, ◌<◌, ◌≤◌, ℕ, suc, Option, Some, None, List, [], ◌∷◌, ◌++◌, Bool, true, false, count_by, sum_by, drop, nat_lt}
-use Rattle.std.proofs.Common.{sym, ◌∙◌, ap, subst, arith}
-use Rattle.std.proofs.lemmas.Bool.{cond-true, cond-false, false≢true, ltb-true}
+use Rattle.std.specs.Prelude.{◌≡◌, refl, ◌+◌, ◌≤◌, ℕ, suc, Option, Some, None, List, [], ◌∷◌, ◌++◌, Bool, true, false, count_by, sum_by, drop}
+use Rattle.std.proofs.Common.{sym, ◌∙◌, ap, arith}
+use Rattle.std.proofs.lemmas.Bool.{cond-true, cond-false, false≢true}
 use Rattle.std.proofs.lemmas.List.Sums.{sum_by-append, sum_by-cons}
 use Rattle.std.proofs.lemmas.Option.{none-some, same_Some}
 use Rattle.std.specs.List.{find, flat_map}
@@ -16,7 +16,7 @@ use Rattle.nir_ir.specs.declared.instr.Src.{Src}
 use Rattle.nir_ir.specs.declared.instr.Instr.{Instr}
 use Rattle.nir_ir.specs.declared.instr.Instr.TheVariants.{Alu}
 use Rattle.nir_ir.specs.Definitions.{alu_at, alu_of, instr_defining, instrs, is_target}
-use Rattle.nir_ir.specs.Edits.{in_place_of, replaced, with_news}
+use Rattle.nir_ir.specs.Edits.{in_place_of, with_news}
 use Rattle.nir_ir.specs.EditsShaped.{count_by-cons, definition_count-once, instrs-replaced, unchanged}
 use Rattle.nir_ir.specs.Shader.{Shader}
 use Rattle.nir_ir.specs.Shaped.{IsShaped}
