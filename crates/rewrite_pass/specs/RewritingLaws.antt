@@ -1,25 +1,65 @@
--- Steps behind steps.
-use Rattle.std.specs.Prelude.{◌≡◌, ◌+◌, ℕ, List, [], ◌∷◌, ◌++◌, length}
+-- Steps behind steps, and no steps.
+use Rattle.std.specs.Prelude.{◌≡◌, refl, ◌+◌, ℕ, List, [], ◌∷◌, ◌++◌, length, Some}
 use Rattle.std.specs.Option.{option_and_then}
 use Rattle.std.proofs.Common.{sym, ◌∙◌, ap, append_assoc, arith}
-use Rattle.std.proofs.lemmas.List.{length-append}
+use Rattle.std.proofs.lemmas.List.{append-nil, length-append}
+use Rattle.std.proofs.lemmas.Option.{same_Some}
 use Rattle.nir_ir.specs.declared.journal.Step.{Step}
 use Rattle.nir_ir.specs.Shader.{Shader}
+use Rattle.nir_ir.specs.Shaped.{IsShaped}
+use Rattle.nir_validate.specs.Valid.{Valid}
 use Rattle.rule_term.specs.declared.when.Options.{Options}
 use Rattle.rule_term.specs.Rule.{Rule}
+use Rattle.rule_term.specs.Table.{AllFormed, AllHold, Table}
 use Rattle.nir_search.specs.FirstLaws.{replay-append}
 use Rattle.nir_search.specs.Steps.{replay}
-use Rattle.rewrite_pass.specs.Rewriting.{Grows, Rewrites}
+use Rattle.run_laws.specs.InPlace.{Keeps}
+use Rattle.rule_meaning.specs.StepSame.{replay_same}
+use Rattle.rewrite_pass.specs.Rewriting.{Advances, Rewrites}
 
-pub rewrites_then : (options : Options) (table : List Rule) (a b c : Shader) (first second third : List Step) (m n : ℕ) → Rewrites options table a b first second m → Rewrites options table b c second third n
-    → Rewrites options table a c first third (m + n)
-rewrites_then options table a b c first second third m n before behind = record {
+pub rewrites_then : (options : Options) (table : List Rule) (a b c : Shader) (first second third : List Step) → Rewrites options table a b first second → Rewrites options table b c second third
+    → Rewrites options table a c first third
+rewrites_then options table a b c first second third before behind = record {
   done = before.done ++ behind.done;
   told = behind.told ∙ ap (λ l. l ++ behind.done) before.told ∙ append_assoc first before.done behind.done;
   legal = replay-append options table a before.done behind.done ∙ ap (option_and_then (λ middle. replay options table middle behind.done)) before.legal ∙ behind.legal;
-  number = length-append before.done behind.done ∙ ap (λ k. k + length behind.done) before.number ∙ ap (λ k. m + k) behind.number;
-  weight = let one = before.weight in let two = behind.weight in omega (arith, one, two);
 }
 
-pub grows_by : (options : Options) (table : List Rule) (a b : Shader) (first second : List Step) (m : ℕ) → Rewrites options table a b first second m → Grows options table a first second
-grows_by options table a b first second m steps = record { done = steps.done; after = b; told = steps.told; legal = steps.legal }
+-- where nothing has changed
+pub rewrites_none : (options : Options) (table : List Rule) (a b : Shader) (first second : List Step) → b ≡ a → second ≡ first → Rewrites options table a b first second
+rewrites_none options table a b first second same kept = record { done = []; told = kept ∙ sym (append-nil first); legal = ap Some (sym same) }
+
+pub advances_then : (options : Options) (table : Table) (a b c : Shader) (first second third : List Step) (m n : ℕ) → Advances options table a b first second m → Advances options table b c second third n
+    → Advances options table a c first third (m + n)
+advances_then options table a b c first second third m n before behind = record {
+  steps = rewrites_then options table.rules a b c first second third before.steps behind.steps;
+  number = let one = before.number in let two = behind.number in omega (arith, one, two);
+  fresh = let one = before.fresh in let two = behind.fresh in omega (arith, one, two);
+  falls = λ down. let one = before.falls down in let two = behind.falls down in omega (arith, one, two);
+}
+
+pub advances_none : (options : Options) (table : Table) (a : Shader) (journal : List Step) → Advances options table a a journal journal 0
+advances_none options table a journal = record {
+  steps = rewrites_none options table.rules a a journal journal refl refl;
+  number = omega arith;
+  fresh = omega arith;
+  falls = λ down. omega arith;
+}
+
+-- no steps lead nowhere
+empty_list : {A : Type 0} (list : List A) → length list ≡ 0 → list ≡ []
+empty_list [] none = refl
+empty_list (a ∷ list) none = absurd (omega (arith, none))
+
+pub advances_stays : (options : Options) (table : Table) (a b : Shader) (first second : List Step) → Advances options table a b first second 0 → b ≡ a
+advances_stays options table a b first second none =
+    let steps = none.steps in
+    let long : length second ≡ length first + length steps.done = ap length steps.told ∙ length-append first steps.done in
+    let number = none.number in
+    let nothing : steps.done ≡ [] = empty_list steps.done (omega (arith, long, number)) in
+    sym (same_Some a b (sym (ap (replay options table.rules a) nothing) ∙ steps.legal))
+
+-- ---- what steps keep
+
+pub rewrites_keep : (options : Options) (table : List Rule) (a b : Shader) (first second : List Step) → AllFormed table → AllHold table → IsShaped a → Valid a → Rewrites options table a b first second → Keeps a b
+rewrites_keep options table a b first second formed hold shaped valid steps = replay_same options table a b steps.done formed hold shaped valid steps.legal

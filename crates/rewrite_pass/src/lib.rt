@@ -1,9 +1,9 @@
 //! The step by a rule: what a rule found is replaced, until no rule is left to find anything.
 #![tactic(auto)]
 
+mod build;
 mod rewrite;
 mod rounds;
-mod search;
 
 pub use rewrite::rewrite_at;
-pub use rounds::{Rewritten, rewrite_all};
+pub use rounds::rewrite_all;

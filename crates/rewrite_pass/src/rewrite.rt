@@ -1,124 +1,75 @@
 //! One step by a rule: the replacement in the place of what the rule found.
 
-ghost use Rattle.std.specs.Prelude.{◌≡◌, ◌+◌, [], ◌∷◌, drop, replicate, IfOk, Some, true};
-ghost use Rattle.std.specs.List.{list_all};
-ghost use Rattle.rule_term.specs.Terms.{terms_of};
-ghost use Rattle.nir_search.specs.Match.{front};
-ghost use Rattle.nir_search.specs.Put.{root_of, view_source};
+ghost use Rattle.std.specs.Prelude.{◌≡◌, ◌+◌, ◌<◌, ◌≤◌, ◌^◌, IfOk, OnErr, Some, true};
+ghost use Rattle.rule_term.specs.Descending.{is_descending};
+ghost use Rattle.rule_term.specs.Table.{op_weight};
+ghost use Rattle.nir_search.specs.Match.{match_of};
 ghost use Rattle.nir_search.specs.Steps.{IsHit, put_hit};
 ghost use Rattle.nir_search.specs.Weight.{weight_of};
-ghost use Rattle.nir_search.specs.Built.{is_built, is_leaf};
+ghost use Rattle.nir_search.specs.Work.{Fits};
 ghost use Rattle.nir_validate.specs.Valid.{Valid};
 ghost use Rattle.nir_mean.specs.Same.{Same};
-ghost use Rattle.rule_term.specs.Weights.{initial_weight};
+ghost use Rattle.rule_meaning.specs.HitLaws.{ArePut};
 
+use crate::build::root_instrs;
 use nir_host::OutOfMemory;
-use nir_ir::{Comps, Instr, Kind, Shader, Src, Srcs, Swizzle, ValueId};
-use nir_ops::{Op, Width};
-use nir_search::{Bind, Hit, count_at};
-use rule_term::{Table, Term, reduced};
+use nir_ir::{Instrs, ValueId};
+use nir_search::{Bind, Hit, Work, count_at, widths_met};
+use rule_term::{Rule, Table, replace_widths};
 use std::alloc::Global;
 
-/// The view as a source.
-fn view_source(view: &Bind) -> Src
-    ensures { result ≡ view_source view.now }
-{
-    let mut swizzle = Swizzle::new();
-    for entry in view.comps.as_slice() {
-        swizzle.push(*entry);
-    }
-    Src {
-        value: view.value,
-        swizzle,
-    }
-}
-
-/// What a variable is bound to, as a source; nothing of value 0 where it is none of them.
-fn bound_source(subst: &[Bind], var: u32) -> Src
-    ensures { result ≡ view_source (front (drop var subst.now)) }
-{
-    match subst.get(var as usize) {
-        Some(view) => view_source(view),
-        None => Src {
-            value: ValueId(0),
-            swizzle: Swizzle::new(),
-        },
-    }
-}
-
-/// One source.
-fn one_source(alloc: Global, src: Src) -> Result<Srcs, OutOfMemory>
-    ensures { IfOk result (λ srcs. srcs ≡ src ∷ []) }
-{
-    let mut srcs = Srcs::new(alloc);
-    srcs.push(src)?;
-    Ok(srcs)
-}
-
-/// So many components, all equal.
-fn equal_components(alloc: Global, word: u64, count: u8) -> Result<Comps, OutOfMemory>
-    ensures { IfOk result (λ comps. comps ≡ replicate count word) }
-{
-    let mut comps = Comps::new(alloc);
-    for _at in 0..count {
-        comps.push(word)?;
-    }
-    Ok(comps)
-}
-
-/// The one instruction of a replacement at 8 bits that is a variable or a number: a move of what the variable is bound to, or a
-/// const of equal components.
-fn leaf_instr(
+/// The instructions that a rule puts in the place of the one that defines the value, where a variant of it matches there with this substitution.
+fn new_instrs(
     alloc: Global,
-    subst: &[Bind],
+    work: &Work,
+    rule: &Rule,
+    variant: u32,
     value: ValueId,
-    count: u8,
-    leaf: &Term,
-) -> Result<Instr, OutOfMemory>
-    requires leaf { is_leaf (terms_of (leaf.now ∷ [])) ≡ true }
-    ensures { IfOk result (λ instr. (root_of subst.now value count (terms_of (leaf.now ∷ [])) (Width.W8 ∷ []) 0).instrs ≡ instr ∷ []) }
+    subst: &[Bind],
+) -> Result<Instrs, OutOfMemory>
+    requires found { match_of rule.now variant work.now.shader.body value ≡ Some subst.now }
+    requires fresh { work.now.shader.next_value + 64 < 2 ^ 32 }
+    ensures { IfOk result (λ news. ArePut rule.now variant work.now.shader value subst.now news) }
 {
-    let kind = Kind {
-        width: Width::W8,
-        count,
-    };
-    match leaf {
-        Term::Var { var, .. } => {
-            let srcs = one_source(alloc, bound_source(subst, *var))?;
-            Ok(Instr::Alu {
-                value,
-                op: Op::Mov,
-                kind,
-                srcs,
-            })
+    let met = widths_met(rule, variant, work, value);
+    let count = count_at(work, value);
+    let next = work.next_value();
+    match replace_widths(rule, met.as_slice()) {
+        Some(widths) => {
+            let sizes = widths.as_slice();
+            let news = root_instrs(alloc, subst, value, count, &rule.replace, sizes, next)?;
+            Ok(news)
         }
-        Term::Lit { value: number, .. } => {
-            let comps = equal_components(alloc, reduced(*number, Width::W8), count)?;
-            Ok(Instr::Const { value, kind, comps })
-        }
-        Term::App { .. } => unreachable!(),
+        None => unreachable!(),
     }
 }
 
-/// The shader after the replacement of the hit's rule was put in the place of the instruction that defines the value,
-/// where the hit's rule and variant match with the hit's substitution. A valid shader stays valid, and means the same.
-/// After `OutOfMemory` the shader is dropped. Linear in the size of the shader.
+/// Puts the replacement of the hit's rule in the place of the instruction that defines the value, where the hit's rule and variant match with
+/// the hit's substitution. The shader stays valid, and means the same. It takes at most 64 fresh numbers. After `OutOfMemory` nothing has changed.
 pub fn rewrite_at(
     alloc: Global,
-    shader: Shader,
+    work: &mut Work,
     table: &Table,
     value: ValueId,
     hit: &Hit,
-) -> Result<Shader, OutOfMemory>
-    requires built { list_all is_built table.now.rules ≡ true }
-    requires hit { IsHit table.now.rules shader.body value hit.now }
-    ensures put { IfOk result (λ after. put_hit table.now.rules shader value hit.now ≡ Some after) }
-    ensures lighter { IfOk result (λ after. weight_of initial_weight after + 1 ≡ weight_of initial_weight shader) }
-    ensures valid { Valid shader → IfOk result (λ after. Valid after) }
-    ensures same { Valid shader → IfOk result (λ after. Same shader after) }
+) -> Result<(), OutOfMemory>
+    requires fits { Fits work.old table.now.rules }
+    requires hit { IsHit table.now.rules work.old.shader.body value hit.now }
+    requires fresh { work.old.shader.next_value + 64 < 2 ^ 32 }
+    ensures put { IfOk result (λ u. put_hit table.now.rules work.old.shader value hit.now ≡ Some work.new.shader) }
+    ensures valid { IfOk result (λ u. Valid work.new.shader) }
+    ensures same { IfOk result (λ u. Same work.old.shader work.new.shader) }
+    ensures undone { OnErr result (work.new ≡ work.old) }
+    ensures fits { Fits work.new table.now.rules }
+    ensures few { IfOk result (λ u. work.new.shader.next_value ≤ work.old.shader.next_value + 64) }
+    ensures falls { is_descending table.now ≡ true → IfOk result (λ u. weight_of (op_weight table.now) work.new.shader + 1 ≤ weight_of (op_weight table.now) work.old.shader) }
 {
-    let count = count_at(&shader, value);
+    work.keeps_shape();
+    table.weights_are_few();
     let rule = table.rule(hit.rule);
-    let instr = leaf_instr(alloc, hit.subst.as_slice(), value, count, &rule.replace)?;
-    Ok(shader.set_instr(value, instr))
+    // The proof learns that the rule is formed.
+    let _number = rule.number;
+    let news = new_instrs(alloc, work, rule, hit.variant, value, hit.subst.as_slice())?;
+    work.replace_in_place(alloc, value, &news)?;
+    Ok(())
 }

@@ -4,7 +4,6 @@ pub mod Env
 pub mod Fit
 pub mod Found
 pub mod Hits
-pub mod Leaf
 pub mod Matched
 pub mod Parts
 pub mod SourceViews
@@ -20,3 +19,5 @@ pub mod BuiltValuesLaws
 pub mod RootBuiltLaws
 pub mod SizedLaws
 pub mod PutLaws
+pub mod WeightLaws
+pub mod HitLaws

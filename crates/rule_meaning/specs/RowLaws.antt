@@ -1,5 +1,5 @@
 -- What a replacement is built of are instructions with fresh numbers in a row.
-use Rattle.std.specs.Prelude.{◌≡◌, refl, ◌+◌, ℕ, suc, Option, Some, List, [], ◌∷◌, ◌++◌, map, length, drop}
+use Rattle.std.specs.Prelude.{◌≡◌, refl, ◌+◌, ◌≤◌, ℕ, suc, Option, Some, List, [], ◌∷◌, ◌++◌, map, length, drop}
 use Rattle.std.proofs.Common.{◌∙◌, ap, ap₂, subst, arith}
 use Rattle.std.specs.List.{range_with_len}
 use Rattle.nir_ops.specs.declared.width.Width.{Width}
@@ -62,3 +62,17 @@ made_in_order binds count (AppThen op size once args rest) widths next =
   where
     ends : (next middle last : ℕ) (first second : List Instr) (own : Instr) → middle ≡ next + length first → last ≡ suc middle + length second → last ≡ next + length (first ++ own ∷ second)
     ends next middle last first second own one two = let long : length (first ++ own ∷ second) ≡ length first + suc (length second) = middle_length first second own in omega (arith, one, two, long)
+
+-- each node takes one fresh number at most
+pub made_next : (binds : List Bind) (count : ℕ) (terms : Terms) (widths : List Width) (next : ℕ) → (made binds count terms widths next).next ≤ next + size_of terms
+made_next binds count Nil widths next = omega arith
+made_next binds count (VarThen var constant size cond rest) widths next =
+    let more = made_next binds count rest (drop 1 widths) next in
+    omega (arith, more)
+made_next binds count (LitThen number boolean rest) widths next =
+    let more = made_next binds count rest (drop 1 widths) (suc next) in
+    omega (arith, more)
+made_next binds count (AppThen op size once args rest) widths next =
+    let inner = made_next binds count args (drop 1 widths) next in
+    let more = made_next binds count rest (drop (suc (size_of args)) widths) (suc (made binds count args (drop 1 widths) next).next) in
+    omega (arith, inner, more)

@@ -1,34 +1,63 @@
-use Rattle.std.proofs.Common.{subst}
-use Rattle.nir_ir.specs.Shaped.{IsShaped}
-use Rattle.nir_search.specs.FirstLaws.{built_eight}
-use Rattle.rule_meaning.specs.StepSame.{replay_same}
-use Rattle.rewrite_pass.specs.RewritingLaws.{rewrites_then}
+use Rattle.std.proofs.Common.{◌≡◌, ◌≤◌, true, arith, rules}
+use Rattle.nir_search.specs.Steps.{is_settled}
+use Rattle.rewrite_pass.specs.RewritingLaws.{advances_then, rewrites_keep, rewrites_then}
+use Rattle.rewrite_pass.proofs.RoundsLemmas.{limit_or}
 use Rattle.rewrite_pass.proofs.rounds.rewrite_all.Goals as goal
 
-pub find_hit-requires : goal.find_hit-requires
-find_hit-requires g c = record { eight = built_eight c.args.table.now.rules c.requires.built }
+pub returns-in_err-count-clause-steps : goal.returns-in_err-count-clause-steps
+returns-in_err-count-clause-steps g c =
+    rewrites_then c.args.options.now c.args.table.now.rules c.args.work.now.shader c.loop-pass.work.shader c.one_pass.new.work.shader c.args.journal.now c.loop-pass.journal c.one_pass.new.journal
+    c.loop-pass.invariant.steps.steps c.in_err-count.ensures.steps
 
-pub loop-rewrites-preserved : goal.loop-rewrites-preserved
-loop-rewrites-preserved g c =
-    rewrites_then c.args.options.now c.args.table.now.rules c.args.shader c.loop-rewrites.shader c.in_ok-shader-in-Some.shader c.args.journal.now c.loop-rewrites.journal c.rewrite_found.new.journal c.loop-rewrites.rewrites 1
-    c.loop-rewrites.invariant c.in_ok-shader-in-Some.ensures.done
+pub returns-in_err-count-clause-valid : goal.returns-in_err-count-clause-valid
+returns-in_err-count-clause-valid g c =
+    (rewrites_keep c.args.options.now c.args.table.now.rules c.args.work.now.shader c.one_pass.new.work.shader c.args.journal.now c.one_pass.new.journal c.rules_hold.ensures.formed c.rules_hold.ensures.hold
+    c.keeps_shape.ensures.shaped c.keeps_shape.ensures.valid (returns-in_err-count-clause-steps g c)).valid
 
-pub returns-in-None-clause-valid : goal.returns-in-None-clause-valid
-returns-in-None-clause-valid g c = λ valid.
-    (replay_same c.args.options.now c.args.table.now.rules c.args.shader c.loop-rewrites.shader c.loop-rewrites.invariant.done c.rules_hold.ensures.formed c.rules_hold.ensures.hold
-    (subst IsShaped c.shader.view_is c.shader.invariant) valid c.loop-rewrites.invariant.legal).valid
+pub returns-in_err-count-clause-same : goal.returns-in_err-count-clause-same
+returns-in_err-count-clause-same g c =
+    (rewrites_keep c.args.options.now c.args.table.now.rules c.args.work.now.shader c.one_pass.new.work.shader c.args.journal.now c.one_pass.new.journal c.rules_hold.ensures.formed c.rules_hold.ensures.hold
+    c.keeps_shape.ensures.shaped c.keeps_shape.ensures.valid (returns-in_err-count-clause-steps g c)).same
 
-pub returns-in-None-clause-same : goal.returns-in-None-clause-same
-returns-in-None-clause-same g c = λ valid.
-    (replay_same c.args.options.now c.args.table.now.rules c.args.shader c.loop-rewrites.shader c.loop-rewrites.invariant.done c.rules_hold.ensures.formed c.rules_hold.ensures.hold
-    (subst IsShaped c.shader.view_is c.shader.invariant) valid c.loop-rewrites.invariant.legal).same
+pub returns-then-count-eq0-clause-steps : goal.returns-then-count-eq0-clause-steps
+returns-then-count-eq0-clause-steps g c =
+    rewrites_then c.args.options.now c.args.table.now.rules c.args.work.now.shader c.loop-pass.work.shader c.one_pass.new.work.shader c.args.journal.now c.loop-pass.journal c.one_pass.new.journal
+    c.loop-pass.invariant.steps.steps c.in_ok-count.ensures.steps
+
+pub returns-then-count-eq0-clause-valid : goal.returns-then-count-eq0-clause-valid
+returns-then-count-eq0-clause-valid g c =
+    (rewrites_keep c.args.options.now c.args.table.now.rules c.args.work.now.shader c.one_pass.new.work.shader c.args.journal.now c.one_pass.new.journal c.rules_hold.ensures.formed c.rules_hold.ensures.hold
+    c.keeps_shape.ensures.shaped c.keeps_shape.ensures.valid (returns-then-count-eq0-clause-steps g c)).valid
+
+pub returns-then-count-eq0-clause-same : goal.returns-then-count-eq0-clause-same
+returns-then-count-eq0-clause-same g c =
+    (rewrites_keep c.args.options.now c.args.table.now.rules c.args.work.now.shader c.one_pass.new.work.shader c.args.journal.now c.one_pass.new.journal c.rules_hold.ensures.formed c.rules_hold.ensures.hold
+    c.keeps_shape.ensures.shaped c.keeps_shape.ensures.valid (returns-then-count-eq0-clause-steps g c)).same
+
+pub returns-then-count-eq0-clause-settled : goal.returns-then-count-eq0-clause-settled
+returns-then-count-eq0-clause-settled g c =
+    let zero : c.in_ok-count.count ≡ 0 = search rules in
+    limit_or (is_settled c.args.options.now c.args.table.now.rules c.one_pass.new.work.shader ≡ true) c.loop-pass.done c.args.limit c.loop-pass.invariant.few (c.in_ok-count.ensures.settled zero)
+
+pub loop-pass-preserved : goal.loop-pass-preserved
+loop-pass-preserved g c =
+    let l = c.loop-pass in
+    let own = c.in_ok-count.ensures in
+    let few : l.done ≤ c.args.limit = l.invariant.few in
+    let most = own.few in
+    let many = l.invariant.many in
+    record {
+      steps = advances_then c.args.options.now c.args.table.now c.args.work.now.shader l.work.shader c.one_pass.new.work.shader c.args.journal.now l.journal c.one_pass.new.journal l.done c.in_ok-count.count l.invariant.steps own.done;
+      few = omega (arith, few, most);
+      many = omega (arith, many, c.if-count-eq0.false);
+    }
 
 pub returns-clause-valid : goal.returns-clause-valid
-returns-clause-valid g c = λ valid.
-    (replay_same c.args.options.now c.args.table.now.rules c.args.shader c.loop-rewrites.shader c.loop-rewrites.invariant.done c.rules_hold.ensures.formed c.rules_hold.ensures.hold
-    (subst IsShaped c.shader.view_is c.shader.invariant) valid c.loop-rewrites.invariant.legal).valid
+returns-clause-valid g c =
+    (rewrites_keep c.args.options.now c.args.table.now.rules c.args.work.now.shader c.loop-pass.work.shader c.args.journal.now c.loop-pass.journal c.rules_hold.ensures.formed c.rules_hold.ensures.hold
+    c.keeps_shape.ensures.shaped c.keeps_shape.ensures.valid c.loop-pass.invariant.steps.steps).valid
 
 pub returns-clause-same : goal.returns-clause-same
-returns-clause-same g c = λ valid.
-    (replay_same c.args.options.now c.args.table.now.rules c.args.shader c.loop-rewrites.shader c.loop-rewrites.invariant.done c.rules_hold.ensures.formed c.rules_hold.ensures.hold
-    (subst IsShaped c.shader.view_is c.shader.invariant) valid c.loop-rewrites.invariant.legal).same
+returns-clause-same g c =
+    (rewrites_keep c.args.options.now c.args.table.now.rules c.args.work.now.shader c.loop-pass.work.shader c.args.journal.now c.loop-pass.journal c.rules_hold.ensures.formed c.rules_hold.ensures.hold
+    c.keeps_shape.ensures.shaped c.keeps_shape.ensures.valid c.loop-pass.invariant.steps.steps).same

@@ -4,8 +4,8 @@ use Rattle.rewrite_pass.proofs.rounds.rewrite_found.Goals as goal
 
 pub rule-requires : goal.rule-requires
 rule-requires c =
-    let from = first_from_table c.args.options.now c.args.table.now.rules c.args.shader.body c.args.found.now.value c.args.found.now.hit c.requires.first in
-    slice_get_within c.args.table.now.rules c.args.found.now.hit.rule from.rule (rule_there c.args.table.now.rules c.args.shader.body c.args.found.now.value c.args.found.now.hit from)
+    let from = first_from_table c.args.options.now c.args.table.now.rules c.args.work.now.shader.body c.args.value c.args.hit.now c.requires.first in
+    slice_get_within c.args.table.now.rules c.args.hit.now.rule from.rule (rule_there c.args.table.now.rules c.args.work.now.shader.body c.args.value c.args.hit.now from)
 
 pub rewrite_at-requires-clause-hit : goal.rewrite_at-requires-clause-hit
-rewrite_at-requires-clause-hit c = first_hits c.args.options.now c.args.table.now.rules c.args.shader.body c.args.found.now.value c.args.found.now.hit c.requires.first
+rewrite_at-requires-clause-hit c = first_hits c.args.options.now c.args.table.now.rules c.args.work.now.shader.body c.args.value c.args.hit.now c.requires.first
