@@ -1,5 +1,5 @@
 -- The sources of what an opcode writes are among the values that are defined before a point; and what is found by its value defines it.
-use Rattle.std.specs.Prelude.{◌≡◌, Bool, true, false, ◌||◌, nat_eq, List, [], ◌∷◌, Option, Some}
+use Rattle.std.specs.Prelude.{◌≡◌, refl, Bool, true, false, ◌||◌, nat_eq, List, [], ◌∷◌, Option, Some}
 use Rattle.std.specs.List.{find}
 use Rattle.std.specs.Option.{option_and_then, option_map, option_or}
 use Rattle.std.proofs.Common.{sym, ◌∙◌, ap, subst, ℕ}
