@@ -1,3 +1,1 @@
 pub mod FindLemmas
-pub mod UsesLemmas
-pub mod EditLemmas

@@ -1,7 +1,6 @@
 -- Edits of the tree of a shader: instructions put in the place of the one that defines a value.
-use Rattle.std.specs.Prelude.{◌≡◌, ℕ, ◌+◌, ◌<◌, ◌≤◌, List, [], ◌∷◌, ◌++◌, length, map, Option, Some, cond, true}
-use Rattle.std.specs.Option.{MatchOption}
-use Rattle.std.specs.List.{flat_map, HoldsAt, range_with_len}
+use Rattle.std.specs.Prelude.{◌≡◌, ℕ, ◌+◌, List, [], ◌∷◌, ◌++◌, length, map, Some, cond}
+use Rattle.std.specs.List.{flat_map, range_with_len}
 use Rattle.nir_ir.specs.declared.ids.ValueId.{ValueId}
 use Rattle.nir_ir.specs.declared.instr.Instr.{Instr}
 use Rattle.nir_ir.specs.declared.node.Block.{Block}
@@ -23,14 +22,6 @@ replaced value news Nil = Nil
 replaced value news (BlockThen b rest) = BlockThen (replaced_in_block value news b) (replaced value news rest)
 replaced value news (IfThen id condition first second rest) = IfThen id condition (replaced value news first) (replaced value news second) (replaced value news rest)
 replaced value news (LoopThen id body rest) = LoopThen id (replaced value news body) (replaced value news rest)
-
--- the instruction at the place defines the value
-abbrev pub IsPlaceOf : ValueId → List Instr → ℕ → Type 0
-IsPlaceOf value list at = (at < length list) × HoldsAt (λ instr. is_target value instr ≡ true) list at
-
--- what is left of an instruction that was to take the place of one of so many: nothing, or itself where there was none and all was kept
-abbrev pub IsLeftOver : Option Instr → Instr → ℕ → Type 0 → Type 0
-IsLeftOver left instr count kept = MatchOption left (1 ≤ count) (λ same. (same ≡ instr) × (count ≡ 0) × kept)
 
 -- Instructions that may stand in the place of the one that defines the value: the last of them defines it, those before define fresh numbers in
 -- order, and `after` is the next fresh number.

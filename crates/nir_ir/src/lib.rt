@@ -1,7 +1,6 @@
 //! Shaders: declarations, and a tree of lists of blocks, ifs and loops.
 #![tactic(auto)]
 
-mod edit;
 mod find;
 mod ids;
 mod instr;
@@ -10,7 +9,6 @@ mod kind;
 mod lists;
 mod node;
 mod shader;
-mod uses;
 
 pub use ids::{BlockId, EffectId, IfId, LoopId, ValueId};
 pub use instr::{Instr, Src};
