@@ -4,6 +4,7 @@ use Rattle.std.specs.List.{find, flat_map}
 use Rattle.std.specs.Option.{option_and_then, option_map, option_or, option_to_list}
 use Rattle.nir_ir.specs.declared.ids.ValueId.{ValueId}
 use Rattle.nir_ir.specs.declared.instr.Instr.{Instr}
+use Rattle.nir_ir.specs.declared.kind.Kind.{Kind}
 use Rattle.nir_ir.specs.Definitions.{instr_defining, instr_of, is_phi_of, is_target, phi_defining, phi_of}
 use Rattle.nir_ir.specs.Items.{Item, reads, uses}
 use Rattle.nir_ir.specs.Nodes.{Nodes}
@@ -11,14 +12,17 @@ use Rattle.nir_ir.specs.Uses.{is_value, use_count}
 use Rattle.nir_index.specs.declared.index.Definer.{Definer}
 use Rattle.nir_index.specs.declared.index.Index.{Index}
 
--- the instruction that is known to define the value
+-- the instruction, and the kind of the phi, that is known to define the value
 abbrev pub known_instr : List Definer → ValueId → Option Instr
 known_instr definers value = option_and_then (λ definer. definer.instr) (slice_get definers value.0)
+
+abbrev pub known_phi : List Definer → ValueId → Option Kind
+known_phi definers value = option_and_then (λ definer. definer.phi) (slice_get definers value.0)
 
 -- what the index says of each value is so: the instruction and the kind of the phi that defines it, and the number of its uses
 pub record IsIndex (body : Nodes) (index : Index) : Type 0 where
   pub instrs : (value : ValueId) → known_instr index.definers value ≡ instr_defining value body
-  pub phis : (value : ValueId) → option_and_then (λ definer. definer.phi) (slice_get index.definers value.0) ≡ option_map (λ phi. phi.kind) (phi_defining value body)
+  pub phis : (value : ValueId) → known_phi index.definers value ≡ option_map (λ phi. phi.kind) (phi_defining value body)
   pub counts : (value : ValueId) → slice_index index.counts value.0 ≡ use_count value body
 
 -- ---- an index while it is made: of all values at once, place by place
