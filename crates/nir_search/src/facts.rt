@@ -8,7 +8,8 @@ ghost use Rattle.op_eval.specs.Word.{residue};
 ghost use Rattle.nir_ir.specs.Definitions.{const_at, const_of, instr_defining, kind_at, kind_of_target, width_at};
 ghost use Rattle.rule_term.specs.Conditions.{cond_holds};
 ghost use Rattle.rule_term.specs.Variants.{is_commutative};
-ghost use Rattle.nir_search.specs.Match.{is_literal, is_taken, meets, same_op, viewed_const};
+ghost use Rattle.nir_search.specs.Match.{is_literal, is_taken, meets, same_op};
+ghost use Rattle.nir_search.specs.Walks.{words_meet};
 
 use crate::hit::Bind;
 use crate::work::Work;
@@ -73,6 +74,7 @@ fn const_at(work: &Work, value: ValueId) -> Option<&[u64]>
     ensures value { option_map (λ comps. comps.now) result ≡ const_at work.now.shader.body value }
     ensures words { IfSome result (λ comps. AllByRecursion (λ comp. comp < 2 ^ width_bits (width_at work.now.shader.body value)) comps.now) }
 {
+    // The proof learns that the shader is shaped.
     work.keeps_shape();
     match work.instr(value) {
         Some(instr) => const_of(instr),
@@ -141,7 +143,7 @@ fn all_meet(cond: Cond, width: Width, comps: &[u64], places: &[u8]) -> bool
 
 /// Whether the view is one of a const whose components meet a condition on words.
 fn const_meets(work: &Work, view: &Bind, cond: Cond) -> bool
-    ensures { result ≡ viewed_const (λ word. cond_holds cond (width_bits (width_at work.now.shader.body view.now.value)) word) (const_at work.now.shader.body view.now.value) view.now }
+    ensures { result ≡ words_meet work.now.shader.body cond view.now }
 {
     match const_at(work, view.value) {
         Some(comps) => all_meet(
@@ -189,6 +191,7 @@ pub fn count_at(work: &Work, value: ValueId) -> u8
     ensures count { result ≡ option_map_or (λ kind. kind.count) (kind_at work.now.shader.body value) 0 }
     ensures few { result ≤ 16 }
 {
+    // The proof learns that the shader is shaped.
     work.keeps_shape();
     match work.kind(value) {
         Some(kind) => kind.count,

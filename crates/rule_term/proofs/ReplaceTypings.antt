@@ -1,26 +1,18 @@
 -- The first typing of a rule with a search part has the least sizes of the replacement, where the variables have the sizes of the search side and the roots agree.
 use Rattle.op_eval.specs.Sizes.{same_width-refl, same_width-same, same_widths-refl, same_widths-same}
 use Rattle.op_eval.specs.Calls.{same_width}
-use Rattle.std.specs.Prelude.{◌≡◌, refl, ◌≤◌, ◌+◌, ◌*◌, ℕ, Bool, true, false, not, ◌&&◌, ◌||◌, Some, None, List, [], ◌∷◌, ◌++◌, length, map, cond, nat_eq, nat_lt, nat_le, replicate}
+use Rattle.std.specs.Prelude.{◌≡◌, refl, ◌≤◌, ◌+◌, ℕ, Bool, true, false, ◌&&◌, Some, None, List, [], ◌∷◌, ◌++◌, length, map, cond, nat_eq, nat_lt, replicate}
 use Rattle.std.proofs.Common.{◌∙◌, ap, sym, subst, arith}
-use Rattle.std.proofs.lemmas.Bool.{and_parts, and_from, ltb-true, lt-ltb, leb-true, eqb-true, false≢true}
+use Rattle.std.proofs.lemmas.Bool.{and_parts, and_from, ltb-true, lt-ltb, false≢true}
 use Rattle.std.proofs.lemmas.List.{append-nil, length-append, length-drop, take-append-drop, take_at, drop_at, take_all}
-use Rattle.std.proofs.lemmas.List.Folds.{list_all-append}
-use Rattle.std.proofs.lemmas.Grind.{flat_map-append}
 use Rattle.std.proofs.lemmas.Option.{none-some}
-use Rattle.std.specs.List.{find, list_all, list_any, flat_map}
+use Rattle.std.specs.List.{find, list_all, list_any}
 use Rattle.std.specs.Option.{option_map}
 use Rattle.std.specs.Cmp.Lexicographic.{pointwise}
-use Rattle.nir_ops.specs.declared.op.Op.{Op}
-use Rattle.nir_ops.specs.declared.op.Op.TheVariants.{Vec2}
 use Rattle.nir_ops.specs.declared.width.Width.{Width}
-use Rattle.nir_ops.specs.Opcodes.{op_info, row_of}
-use Rattle.op_eval.specs.Views.{shape_of}
-use Rattle.rule_term.specs.Terms.{Terms, Nil, VarThen, LitThen, AppThen}
-use Rattle.rule_term.specs.Pieces.{pieces, op_of, ops_of, terms_count, vars_of}
+use Rattle.rule_term.specs.Pieces.{pieces, vars_of}
 use Rattle.rule_term.specs.Rule.{Rule}
-use Rattle.rule_term.specs.Formed.{IsFormed, may_stand}
-use Rattle.rule_term.specs.Ready.{piece_ready}
+use Rattle.rule_term.specs.Formed.{IsFormed}
 use Rattle.rule_term.specs.Splits.{vars_of-occurrences}
 use Rattle.rule_term.specs.EightBitLaws.{one_root, replace_sourced}
 use Rattle.rule_term.specs.Typings.{size_of, first_of, roots, obeys, Occurrence, occurrences, agree, search_part, replace_part, is_typing, typings, width_lists}

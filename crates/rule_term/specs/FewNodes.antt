@@ -1,5 +1,5 @@
 -- A side of a rule has at most 49 nodes: it has at most 16 opcodes, and none that may stand in a rule has more than three sources.
-use Rattle.std.specs.Prelude.{◌≡◌, refl, ◌≤◌, ◌+◌, ◌*◌, ℕ, Bool, true, not, ◌&&◌, ◌||◌, List, [], ◌∷◌, ◌++◌, length, nat_eq, nat_le, nat_lt, is_none}
+use Rattle.std.specs.Prelude.{◌≡◌, refl, ◌≤◌, ◌+◌, ◌*◌, ℕ, Bool, true, not, ◌&&◌, ◌||◌, List, [], ◌∷◌, ◌++◌, length, nat_eq, nat_le}
 use Rattle.std.proofs.Common.{◌∙◌, ap, sym, arith}
 use Rattle.std.proofs.lemmas.Bool.{and_parts, eqb-true, leb-true}
 use Rattle.std.proofs.lemmas.Grind.{flat_map-append}
@@ -13,7 +13,7 @@ use Rattle.op_eval.specs.Views.{shape_of}
 use Rattle.rule_term.specs.Terms.{Terms, Nil, VarThen, LitThen, AppThen}
 use Rattle.rule_term.specs.Pieces.{Piece, VarPiece, LitPiece, AppPiece, pieces, op_of, ops_of, terms_count}
 use Rattle.rule_term.specs.Rule.{Rule}
-use Rattle.rule_term.specs.Formed.{IsFormed, literal_formed, may_stand, replace_piece_formed, search_piece_formed}
+use Rattle.rule_term.specs.Formed.{IsFormed, may_stand, replace_piece_formed, search_piece_formed}
 use Rattle.rule_term.specs.Typings.{size_of}
 
 -- the first case splits, and the second is tried at each opcode that is left
