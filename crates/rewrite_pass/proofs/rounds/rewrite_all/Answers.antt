@@ -1,4 +1,4 @@
-use Rattle.std.proofs.Common.{◌≡◌, ◌≤◌, true, arith, rules}
+use Rattle.std.proofs.Common.{◌≡◌, ◌≤◌, true, inr, arith, rules}
 use Rattle.nir_search.specs.Steps.{is_settled}
 use Rattle.rewrite_pass.specs.RewritingLaws.{advances_then, rewrites_keep, rewrites_then}
 use Rattle.rewrite_pass.proofs.RoundsLemmas.{limit_or}
@@ -61,3 +61,9 @@ pub returns-clause-same : goal.returns-clause-same
 returns-clause-same g c =
     (rewrites_keep c.args.options.now c.args.table.now.rules c.args.work.now.shader c.loop-pass.work.shader c.args.journal.now c.loop-pass.journal c.rules_hold.ensures.formed c.rules_hold.ensures.hold
     c.keeps_shape.ensures.shaped c.keeps_shape.ensures.valid c.loop-pass.invariant.steps.steps).same
+
+pub returns-clause-settled : goal.returns-clause-settled
+returns-clause-settled g c =
+    let few : c.loop-pass.done ≤ c.args.limit = c.loop-pass.invariant.few in
+    let many = c.loop-pass.invariant.many in
+    inr (omega (arith, few, many, c.loop-pass-test.false))
