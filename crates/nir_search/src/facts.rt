@@ -1,11 +1,11 @@
 //! What the shader says of a view.
 
-ghost use Rattle.std.specs.Prelude.{◌≡◌, ◌≤◌, ◌<◌, ◌^◌, [], ◌∷◌, IfSome, is_some, length, map, nat_eq, slice_index};
+ghost use Rattle.std.specs.Prelude.{◌≡◌, ◌≤◌, ◌<◌, ◌^◌, IfSome, nat_eq, slice_index};
 ghost use Rattle.std.specs.List.{list_all, AllByRecursion};
-ghost use Rattle.std.specs.Option.{option_copied, option_map, option_map_or, option_and_then};
+ghost use Rattle.std.specs.Option.{option_map, option_map_or};
 ghost use Rattle.nir_ops.specs.Width.{width_bits};
-ghost use Rattle.op_eval.specs.Word.{residue};
-ghost use Rattle.nir_ir.specs.Definitions.{const_at, const_of, instr_defining, kind_at, kind_of_target, width_at};
+
+ghost use Rattle.nir_ir.specs.Definitions.{const_at, const_of, kind_at, width_at};
 ghost use Rattle.rule_term.specs.Conditions.{cond_holds};
 ghost use Rattle.rule_term.specs.Variants.{is_commutative};
 ghost use Rattle.nir_search.specs.Match.{is_literal, is_taken, meets, same_op};
@@ -14,35 +14,9 @@ ghost use Rattle.nir_search.specs.Walks.{words_meet};
 use crate::hit::Bind;
 use crate::work::Work;
 use bitflags::Flags;
-use nir_ir::{Instr, Kind, Shader, ValueId};
+use nir_ir::{Instr, ValueId};
 use nir_ops::{Op, Width, info};
 use rule_term::{Cond, cond_holds, reduced};
-
-/// The kind of the value that an instruction defines, where one does.
-fn kind_at_instr(shader: &Shader, value: ValueId) -> Option<Kind>
-    ensures { result ≡ option_and_then kind_of_target (instr_defining value shader.now.body) }
-{
-    match shader.instr(value) {
-        Some(instr) => match instr.defines() {
-            Some((_value, kind)) => Some(kind),
-            None => None,
-        },
-        None => None,
-    }
-}
-
-/// The kind of a value: that of the instruction or phi that defines it.
-pub fn kind_at(shader: &Shader, value: ValueId) -> Option<Kind>
-    ensures { result ≡ kind_at shader.now.body value }
-{
-    match kind_at_instr(shader, value) {
-        Some(kind) => Some(kind),
-        None => match shader.phi(value) {
-            Some(phi) => Some(phi.kind),
-            None => None,
-        },
-    }
-}
 
 /// The bit size of a value.
 pub fn width_at(work: &Work, value: ValueId) -> Width
