@@ -4,7 +4,6 @@ ghost use Rattle.std.specs.Prelude.{◌≡◌, ◌≤◌, ◌<◌, ◌^◌, IfSo
 ghost use Rattle.std.specs.List.{list_all, AllByRecursion};
 ghost use Rattle.std.specs.Option.{option_map, option_map_or};
 ghost use Rattle.nir_ops.specs.Width.{width_bits};
-
 ghost use Rattle.nir_ir.specs.Definitions.{const_at, const_of, kind_at, width_at};
 ghost use Rattle.rule_term.specs.Conditions.{cond_holds};
 ghost use Rattle.rule_term.specs.Variants.{is_commutative};

@@ -17,6 +17,8 @@ pub fn weight_of(table: &Table, shader: &Shader) -> u64
     ensures value { result ≡ weight_of (op_weight table.now) shader.now }
     ensures few { result ≤ 60 * shader.now.next_value }
 {
+    // The proof learns that no weight is above the most.
+    table.weights_are_few();
     let most = MAX_WEIGHT * u64::from(shader.next_value);
     most - without_list(table, shader.body.as_slice(), most)
 }
