@@ -82,5 +82,5 @@ module _ (weight : Op → ℕ) (few : (op : Op) → weight op ≤ 60) where
   pub weight_few : (s : Shader) → IsShaped s → weight_of weight s ≤ 60 * s.next_value
   weight_few s shaped =
       let light = items_light (items s.body) in
-      let count = length-le_from_distinct_below (values_defined s.body) s.next_value shaped.values (λ q is. member_has (λ v. v < s.next_value) (values_defined s.body) shaped.below q is) in
+      let count = length-le_from_distinct_below (values_defined s.body) s.next_value shaped.values (λ q is. member_has (λ v. v < s.next_value) (values_defined s.body) q shaped.below is) in
       omega (arith, light, count)
