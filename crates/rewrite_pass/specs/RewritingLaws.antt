@@ -1,5 +1,5 @@
 -- Steps behind steps, no steps, one step, and what steps keep.
-use Rattle.std.specs.Prelude.{◌≡◌, refl, ◌+◌, ◌*◌, ◌≤◌, ◌&&◌, ℕ, Option, Some, None, List, [], ◌∷◌, ◌++◌, length, true, false, nat_eq, slice_get, if◌then◌else◌}
+use Rattle.std.specs.Prelude.{◌≡◌, refl, ◌+◌, ◌≤◌, ◌&&◌, ℕ, Option, Some, None, List, [], ◌∷◌, ◌++◌, length, true, false, nat_eq, slice_get, if◌then◌else◌}
 use Rattle.std.specs.Option.{option_and_then, option_map_or}
 use Rattle.std.proofs.Common.{sym, ◌∙◌, ap, append_assoc, arith}
 use Rattle.std.proofs.lemmas.Bool.{and_from, cond-true, eq-eqb}
