@@ -160,7 +160,15 @@ fn spread_in<L: Ledger>(alloc: Global, text: &[u8], blank: Blank) -> Result<Byte
     if work.next_value() > 16_384 {
         return Err("too many values".into());
     }
-    let rewrites = rewrite_all(alloc, &mut work, &table, &options, 9, &mut journal, &mut steps)?;
+    let rewrites = rewrite_all(
+        alloc,
+        &mut work,
+        &table,
+        &options,
+        9,
+        &mut journal,
+        &mut steps,
+    )?;
     if rewrites != 1 {
         return Err("not one step".into());
     }

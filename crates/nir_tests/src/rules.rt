@@ -52,7 +52,12 @@ pub(crate) fn over(alloc: Global, op: Op, source: Term) -> Result<Term, OutOfMem
 }
 
 /// An opcode over two terms.
-pub(crate) fn over_two(alloc: Global, op: Op, first: Term, second: Term) -> Result<Term, OutOfMemory>
+pub(crate) fn over_two(
+    alloc: Global,
+    op: Op,
+    first: Term,
+    second: Term,
+) -> Result<Term, OutOfMemory>
     ensures { IfOk result (λ t. terms_of (t ∷ []) ≡ AppThen op None false (then (terms_of (first ∷ [])) (terms_of (second ∷ []))) Nil) }
 {
     let mut args = Seq::new(alloc);
