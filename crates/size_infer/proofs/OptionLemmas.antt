@@ -15,9 +15,9 @@ use Rattle.size_laws.specs.ThensLaws.{replaces, searches}
 use Rattle.size_laws.specs.TypingsLaws.{typings_are_products}
 use Rattle.size_infer.specs.FoundFor.{IsFoundFor}
 use Rattle.size_infer.specs.Grown.{all_widths_of, widths_of}
-use Rattle.size_infer.specs.Options.{EachHas, HasMore, HasNone, HasTwoFirst, NoneHasTwo, listed, lists_of, options_of, set_at}
+use Rattle.size_infer.specs.Options.{EachHas, HasMore, HasNone, HasTwoFirst, NoneHasTwo, lists_of, options_of, product_in, set_at}
 use Rattle.size_infer.specs.declared.classes.Classes.{Classes}
-use Rattle.size_infer.specs.declared.walk.Found.{Found}
+use Rattle.size_infer.specs.declared.found.Found.{Found}
 
 pub lists_more : (found : Classes) (node counted more : ℕ) → counted ≡ lists_of found node → more ≡ options_of found node → counted * more ≡ lists_of found (node + 1)
 lists_more found node counted more a b =
@@ -87,7 +87,7 @@ module _ (rule : Rule) (found : Found) (is : IsFoundFor rule found) where
       let least = at_least_as_many rule (searches rule is.formed) (replaces rule is.formed) (each has) more.node (omega (arith, inside, all)) in
       omega (arith, many, same, least)
 
-  pub all_typings : (lists : List Typing) → all_widths_of lists ≡ product (listed found.classes.first) (set_at found.classes.sets) nodes → all_widths_of lists ≡ typings rule
+  pub all_typings : (lists : List Typing) → all_widths_of lists ≡ product_in found.classes nodes → all_widths_of lists ≡ typings rule
   all_typings lists e =
       e
       ∙ ap (λ f. product f (set_at found.classes.sets) nodes) is.first
@@ -95,7 +95,7 @@ module _ (rule : Rule) (found : Found) (is : IsFoundFor rule found) where
       ∙ ap (product (classes (linked_rules rule)) (allowed (classes (linked_rules rule)) (linked_rules rule))) same_nodes
       ∙ sym (typings_are_products rule is.formed)
 
-  pub as_many : (lists : List Typing) → all_widths_of lists ≡ product (listed found.classes.first) (set_at found.classes.sets) nodes → length lists ≡ length (typings rule)
+  pub as_many : (lists : List Typing) → all_widths_of lists ≡ product_in found.classes nodes → length lists ≡ length (typings rule)
   as_many lists e = sym (length-map lists widths_of) ∙ ap length (all_typings lists e)
 
   pub some_list : EachHas found.classes nodes → 1 ≤ length (typings rule)

@@ -1,8 +1,10 @@
 -- Classes of nodes as the code keeps them, and how many sizes they leave to a node.
-use Rattle.std.specs.Prelude.{◌≡◌, ◌+◌, ◌<◌, ◌≤◌, ℕ, Bool, true, List}
+use Rattle.std.specs.Prelude.{◌≡◌, ◌+◌, ◌<◌, ◌≤◌, ◌&&◌, ℕ, Bool, true, List}
 use Rattle.std.specs.List.{slice_index_or}
 use Rattle.nir_ops.specs.declared.width.Width.{Width}
-use Rattle.size_laws.specs.Places.{choices, count}
+use Rattle.size_laws.specs.Places.{choices, count, fits, grown, passes_at, product}
+use Rattle.size_infer.specs.Meant.{meant}
+use Rattle.size_infer.specs.declared.size_rule.SizeRule.{SizeRule}
 use Rattle.size_infer.specs.declared.width_set.WidthSet.{WidthSet}
 use Rattle.size_infer.specs.declared.classes.Classes.{Classes}
 use Rattle.size_infer.specs.Sets.{set_has, set_of}
@@ -14,6 +16,20 @@ listed list node = slice_index_or list node node
 -- the sizes that a class may have, by its first node
 abbrev pub set_at : List WidthSet → ℕ → Width → Bool
 set_at sets node = set_has (slice_index_or sets node (set_of (λ width. true)))
+
+-- what a class has left where something more is asked
+abbrev pub narrowed_at : List WidthSet → List ℕ → SizeRule → ℕ → Width → Bool
+narrowed_at sets first rule node width = set_at sets node width && passes_at (listed first) node width (meant rule)
+
+-- a size of a node fits behind those before it; a list with each that does; all lists of so many sizes
+abbrev pub fits_in : Classes → List Width → ℕ → Width → Bool
+fits_in classes before node width = fits (listed classes.first) (set_at classes.sets) before node width
+
+abbrev pub grown_in : Classes → ℕ → List Width → List (List Width)
+grown_in classes node list = grown (listed classes.first) (set_at classes.sets) node list
+
+abbrev pub product_in : Classes → ℕ → List (List Width)
+product_in classes nodes = product (listed classes.first) (set_at classes.sets) nodes
 
 -- how many sizes a node can have where the sizes of those before it are chosen, and how many lists of so many sizes there are
 abbrev pub options_of : Classes → ℕ → ℕ

@@ -3,9 +3,9 @@
 ghost use Rattle.std.specs.Prelude.{◌≡◌, ◌≤◌, ◌<◌, ◌&&◌, Bool, true, ℕ, length, map};
 ghost use Rattle.nir_ops.specs.declared.width.Width.{Width};
 ghost use Rattle.size_infer.specs.Meant.{meant};
-ghost use Rattle.size_infer.specs.Options.{listed, set_at};
+ghost use Rattle.size_infer.specs.Options.{listed, narrowed_at, set_at};
 ghost use Rattle.size_laws.specs.ClassesLaws.{IsNaming};
-ghost use Rattle.size_laws.specs.Places.{all_within, allowed, classes, merge, merged_by, passes_at, redirect, within};
+ghost use Rattle.size_laws.specs.Places.{all_within, allowed, classes, merge, merged_by, redirect, within};
 
 use crate::size_rule::SizeRule;
 use crate::width_set::WidthSet;
@@ -120,7 +120,7 @@ fn narrow_by(sets: &mut [WidthSet], first: &[usize], rule: &SizeRule)
     requires first_long { length first.now ≡ 98 }
     requires below { (node : ℕ) → listed first.now node ≤ node }
     requires within { within 98 (meant rule.now) ≡ true }
-    ensures { (node : ℕ) (width : Width) → set_at sets.new node width ≡ (set_at sets.old node width && passes_at (listed first.now) node width (meant rule.now)) }
+    ensures { (node : ℕ) (width : Width) → set_at sets.new node width ≡ narrowed_at sets.old first.now rule.now node width }
 {
     match rule {
         SizeRule::Same { .. } => {}

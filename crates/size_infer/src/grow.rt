@@ -2,9 +2,9 @@
 
 ghost use Rattle.std.specs.Prelude.{◌≡◌, ◌≤◌, ◌<◌, ◌++◌, [], ◌∷◌, IfOk, OnOk, filter, map};
 ghost use Rattle.std.specs.List.{flat_map};
-ghost use Rattle.size_infer.specs.Grown.{all_widths_of, widths_of};
-ghost use Rattle.size_infer.specs.Options.{listed, set_at};
-ghost use Rattle.size_laws.specs.Places.{all_widths, fits, grown, longer, product};
+ghost use Rattle.size_infer.specs.Grown.{all_widths_of};
+ghost use Rattle.size_infer.specs.Options.{fits_in, grown_in, product_in};
+ghost use Rattle.size_laws.specs.Places.{longer};
 
 use crate::classes::Classes;
 use crate::width_set::same_width;
@@ -20,7 +20,7 @@ pub(crate) fn all_lists(
     nodes: usize,
 ) -> Result<Seq<Typing>, OutOfMemory>
     requires inside { nodes ≤ 98 }
-    ensures { IfOk result (λ lists. all_widths_of lists ≡ product (listed classes.now.first) (set_at classes.now.sets) nodes) }
+    ensures { IfOk result (λ lists. all_widths_of lists ≡ product_in classes.now nodes) }
 {
     let mut lists = empty_list(alloc)?;
     for node in 0..nodes {
@@ -48,7 +48,7 @@ fn longer_lists(
     lists: &[Typing],
 ) -> Result<Seq<Typing>, OutOfMemory>
     requires inside { node < 98 }
-    ensures { IfOk result (λ next. all_widths_of next ≡ flat_map (grown (listed classes.now.first) (set_at classes.now.sets) node) (all_widths_of lists.now)) }
+    ensures { IfOk result (λ next. all_widths_of next ≡ flat_map (grown_in classes.now node) (all_widths_of lists.now)) }
 {
     let mut next = Seq::new(alloc);
     for list in lists {
@@ -77,7 +77,7 @@ fn add_longer(
     next: &mut Seq<Typing>,
 ) -> Result<(), OutOfMemory>
     requires inside { node < 98 }
-    ensures { OnOk result (all_widths_of next.new ≡ all_widths_of next.old ++ map (longer list.now) (filter (fits (listed classes.now.first) (set_at classes.now.sets) list.now node) widths.now)) }
+    ensures { OnOk result (all_widths_of next.new ≡ all_widths_of next.old ++ map (longer list.now) (filter (fits_in classes.now list.now node) widths.now)) }
 {
     for width in widths {
         if !classes.fits(list, node, *width) {
@@ -101,7 +101,7 @@ impl Classes {
     /// Whether the node can have the size behind the sizes of those before it.
     fn fits(&self, before: &[Width], node: usize, width: Width) -> bool
         requires inside { node < 98 }
-        ensures { result ≡ fits (listed self.now.first) (set_at self.now.sets) before.now node width }
+        ensures { result ≡ fits_in self.now before.now node width }
     {
         let first = self.first[node];
         if first == node {

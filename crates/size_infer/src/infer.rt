@@ -7,8 +7,8 @@ ghost use Rattle.size_infer.specs.declared.fault.SizeFault.TheVariants.{Ambiguou
 ghost use Rattle.size_laws.specs.Ambiguous.{IsDefinite, IsFirstAmbiguous};
 
 use crate::fault::SizeFault;
+use crate::found::found_of;
 use crate::grow::all_lists;
-use crate::walk::found_of;
 use nir_host::Seq;
 use rule_term::{Rule, Typing};
 use std::alloc::Global;

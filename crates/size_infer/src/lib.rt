@@ -3,6 +3,7 @@
 
 mod classes;
 mod fault;
+mod found;
 mod grow;
 mod infer;
 mod options;

@@ -4,10 +4,9 @@ ghost use Rattle.std.specs.Prelude.{◌≡◌, ◌+◌, ◌<◌, ◌^◌, ◌++�
 ghost use Rattle.rule_term.specs.Terms.{terms_of};
 ghost use Rattle.rule_term.specs.Typings.{size_of};
 ghost use Rattle.size_infer.specs.Meant.{meant, spot_of};
-ghost use Rattle.size_infer.specs.FoundFor.{IsFoundFor};
+ghost use Rattle.size_infer.specs.FoundFor.{IsAskedBy};
 ghost use Rattle.size_laws.specs.NodeRules.{root_places, rules_of, var_places};
 
-use crate::classes::{Classes, classes_of};
 use crate::size_rule::{SizeRule, SizeRules, Spot, Spots, add_links};
 use crate::sources::add_op;
 use crate::width_set::WidthSet;
@@ -15,17 +14,17 @@ use nir_host::{OutOfMemory, Seq};
 use rule_term::{Rule, Term};
 use std::alloc::Global;
 
-/// What is found of a rule: the classes of its nodes, and how many nodes each side has.
+/// All that a rule asks of the sizes of its nodes, and how many nodes each side has.
 #[derive(Drop)]
-pub(crate) struct Found {
-    pub(crate) classes: Classes,
+pub(crate) struct Asked {
+    pub(crate) rules: SizeRules,
     pub(crate) searched: usize,
     pub(crate) replaced: usize,
 }
 
-/// Collects what the rule asks of the sizes of its nodes, and joins those that have one size.
-pub(crate) fn found_of(alloc: Global, rule: &Rule) -> Result<Found, OutOfMemory>
-    ensures { IfOk result (λ found. IsFoundFor rule.now found) }
+/// Collects what the rule asks.
+pub(crate) fn asked_of(alloc: Global, rule: &Rule) -> Result<Asked, OutOfMemory>
+    ensures { IfOk result (λ asked. IsAskedBy rule.now asked) }
 {
     let mut rules = Seq::new(alloc);
     let mut spots = Seq::new(alloc);
@@ -36,9 +35,8 @@ pub(crate) fn found_of(alloc: Global, rule: &Rule) -> Result<Found, OutOfMemory>
         other: searched,
     })?;
     add_links(spots.as_slice(), &mut rules)?;
-    let classes = classes_of(rules.as_slice());
-    Ok(Found {
-        classes,
+    Ok(Asked {
+        rules,
         searched,
         replaced: nodes - searched,
     })

@@ -1,6 +1,7 @@
 pub mod Places
 pub mod NodeRules
 pub mod Ambiguous
+pub mod AmbiguousWorked
 pub mod ClassesLaws
 pub mod LongerLaws
 pub mod ProductLaws

@@ -1,11 +1,10 @@
 -- The occurrences of a variable have one size where each has that of the next.
-use Rattle.std.proofs.Common.{◌≡◌, refl, ℕ, ◌<◌, Bool, true, false, not, ◌&&◌, ◌||◌, cond, List, [], ◌∷◌, ◌++◌, nat_eq, nat_lt, sym, ◌∙◌, ap, subst, ⊎_elim}
-use Rattle.std.proofs.lemmas.Bool.{and_parts, and_from, or_left, or_right, eqb-true, eq-eqb, ltb-true, not_from_false}
+use Rattle.std.proofs.Common.{◌≡◌, refl, ℕ, Bool, true, false, not, ◌&&◌, ◌||◌, cond, List, [], ◌∷◌, ◌++◌, nat_eq, sym, ◌∙◌, ap, subst}
+use Rattle.std.proofs.lemmas.Bool.{and_parts, and_from, eqb-true}
 use Rattle.nir_ops.specs.declared.width.Width.{Width}
 use Rattle.op_eval.specs.Calls.{same_width}
 use Rattle.op_eval.specs.Sizes.{same_width-same, same_width-from_equal}
-use Rattle.size_laws.specs.Places.{SizeRule, Same, Only, all_hold, all_within, passes_at, allowed}
-use Rattle.size_laws.specs.ClassesLaws.{same_or_not}
+use Rattle.size_laws.specs.Places.{SizeRule, Same, all_hold}
 use Rattle.size_laws.specs.ProductLaws.{same_truth}
 use Rattle.size_laws.specs.NodeRulesLaws.{rules_with, all_hold-append}
 use Rattle.size_laws.specs.NodeRules.{VarPlace, link_rules, next_place}

@@ -11,11 +11,9 @@ use Rattle.nir_ops.specs.declared.width.Width.TheVariants.{W1}
 use Rattle.nir_ops.specs.Opcodes.{op_info, op_allows}
 use Rattle.op_eval.specs.Calls.{same_width, size_at, sizes_fit, unsized_of, unsized_width, source_widths, result_width}
 use Rattle.op_eval.specs.Sizes.{same_width-refl}
-use Rattle.rule_term.specs.declared.cond.Cond.{Cond}
 use Rattle.rule_term.specs.Terms.{Terms, Nil, VarThen, LitThen, AppThen}
-use Rattle.rule_term.specs.Rule.{Rule}
 use Rattle.rule_term.specs.Typings.{size_of, first_of, roots, has_size, literal_fits, obeys, Occurrence, occurrences, alike}
-use Rattle.size_laws.specs.Places.{SizeRule, Same, Only, at, holds, all_hold, within, all_within}
+use Rattle.size_laws.specs.Places.{SizeRule, Same, at, holds, all_hold, within, all_within}
 use Rattle.size_laws.specs.NodeRules.{VarPlace, fit_rules, op_rules, root_places, rules_of, source_rule, source_rules, var_places}
 
 abbrev pub rules_with : VarPlace → List VarPlace → List SizeRule

@@ -1,18 +1,16 @@
 -- All pairs of occurrences of a variable have one size where each has that of the next.
-use Rattle.std.proofs.Common.{◌≡◌, refl, ℕ, Bool, true, false, not, ◌&&◌, ◌||◌, List, [], ◌∷◌, ◌++◌, nat_eq, sym, ◌∙◌, ap, subst, ⊎_elim}
+use Rattle.std.proofs.Common.{◌≡◌, refl, ℕ, Bool, true, false, not, ◌&&◌, ◌||◌, List, [], ◌∷◌, nat_eq, sym, ◌∙◌, ap, subst, ⊎_elim}
 use Rattle.std.specs.List.{list_all}
 use Rattle.std.proofs.lemmas.Bool.{or_left, or_right, eq-eqb, not_from_false}
 use Rattle.nir_ops.specs.declared.width.Width.{Width}
 use Rattle.op_eval.specs.Calls.{same_width}
 use Rattle.op_eval.specs.Sizes.{same_width-same, same_width-from_equal}
-use Rattle.rule_term.specs.Rule.{Rule}
-use Rattle.rule_term.specs.Typings.{size_of}
-use Rattle.size_laws.specs.Places.{SizeRule, Same, all_hold}
+use Rattle.size_laws.specs.Places.{all_hold}
 use Rattle.size_laws.specs.ClassesLaws.{same_or_not}
 use Rattle.size_laws.specs.ProductLaws.{same_truth}
 use Rattle.size_laws.specs.NodeRulesLaws.{rules_with, pair_rules, all_hold-append}
 use Rattle.size_laws.specs.LinksLaws.{later_rules, links_are_later, one_size, with_is}
-use Rattle.size_laws.specs.NodeRules.{VarPlace, link_rules, rule_places, rules_of}
+use Rattle.size_laws.specs.NodeRules.{VarPlace, link_rules}
 
 -- what is said of all pairs, where it is said of each with itself and both ways
 module _ {A : Type 0} (r : A → A → Bool) (itself : (a : A) → r a a ≡ true) (both_ways : (a b : A) → r a b ≡ r b a) where
