@@ -1,12 +1,14 @@
 -- What the numbers of sizes that classes leave to nodes say of the typings of a rule.
-use Rattle.std.proofs.Common.{◌≡◌, ℕ, suc, ◌+◌, ◌*◌, ◌<◌, ◌≤◌, true, false, Option, Some, None, List, [], length, ap, sym, subst, ◌∙◌, arith}
+use Rattle.std.specs.List.{All, slice_index_or}
+use Rattle.std.proofs.lemmas.List.Elements.{filter_passes}
+use Rattle.std.proofs.Common.{◌≡◌, refl, ℕ, zero, suc, [], ◌∷◌, ◌+◌, ◌*◌, ◌<◌, ◌≤◌, true, false, Option, Some, None, List, length, ap, sym, subst, ◌∙◌, arith}
 use Rattle.std.specs.Prelude.{MatchOption, is_some}
 use Rattle.std.proofs.lemmas.Bool.{false≢true}
 use Rattle.std.proofs.lemmas.List.{length-map}
 use Rattle.rule_term.specs.FewNodes.{few_replaced, few_searched}
 use Rattle.rule_term.specs.declared.typing.Typing.{Typing}
 use Rattle.rule_term.specs.Rule.{Rule}
-use Rattle.rule_term.specs.Typings.{size_of, typings}
+use Rattle.rule_term.specs.Typings.{is_typing, size_of, typings, width_lists}
 use Rattle.size_laws.specs.Ambiguous.{IsDefinite, IsFirstAmbiguous}
 use Rattle.size_laws.specs.NodeRules.{linked_rules, node_count}
 use Rattle.size_laws.specs.OutcomesLaws.{HasOptions, NoneBefore, at_least_as_many, contradicts, count_to, definite, first_ambiguous, options, some_typing, typings_count}
@@ -32,6 +34,19 @@ found_one (Some a) P Q m e k = k a m
 pub found_none : {A : Type 0} (r : Option A) (P : Type 0) (Q : A → Type 0) → MatchOption r P Q → is_some r ≡ false → P
 found_none None P Q m e = m
 found_none (Some a) P Q m e = absurd (false≢true (sym e))
+
+mapped : (lists : List Typing) (k : ℕ) (d : Typing) → slice_index_or (all_widths_of lists) k d.widths ≡ (slice_index_or lists k d).widths
+mapped [] k d = refl
+mapped (typing ∷ lists) zero d = refl
+mapped (typing ∷ lists) (suc k) d = mapped lists k d
+
+-- each list of the typings is a typing
+pub each_typing : (rule : Rule) (lists : List Typing) → all_widths_of lists ≡ typings rule → All (λ typing. is_typing rule typing.widths ≡ true) lists
+unfolding typings
+each_typing rule lists e k d less =
+    subst (λ w. is_typing rule w ≡ true) (mapped lists k d)
+    (subst (λ l. All (λ w. is_typing rule w ≡ true) l) (sym e) (filter_passes (is_typing rule) (width_lists (size_of rule.search + size_of rule.replace))) k d.widths
+    (let same = length-map lists widths_of in omega (arith, less, same)))
 
 -- the classes of all that a rule asks
 module _ (rule : Rule) (found : Found) (is : IsFoundFor rule found) where

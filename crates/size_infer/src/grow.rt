@@ -13,12 +13,15 @@ use nir_ops::Width;
 use rule_term::Typing;
 use std::alloc::Global;
 
+/// Typings of a rule in lexicographic order, 1 bit before 8, 16, 32 and 64.
+pub type Typings = Seq<Typing>;
+
 /// All lists of sizes of the first so many nodes, in lexicographic order.
 pub(crate) fn all_lists(
     alloc: Global,
     classes: &Classes,
     nodes: usize,
-) -> Result<Seq<Typing>, OutOfMemory>
+) -> Result<Typings, OutOfMemory>
     requires inside { nodes ≤ 98 }
     ensures { IfOk result (λ lists. all_widths_of lists ≡ product_in classes.now nodes) }
 {
@@ -30,7 +33,7 @@ pub(crate) fn all_lists(
 }
 
 /// The list of no sizes alone.
-fn empty_list(alloc: Global) -> Result<Seq<Typing>, OutOfMemory>
+fn empty_list(alloc: Global) -> Result<Typings, OutOfMemory>
     ensures { IfOk result (λ lists. all_widths_of lists ≡ [] ∷ []) }
 {
     let mut lists = Seq::new(alloc);
@@ -46,7 +49,7 @@ fn longer_lists(
     classes: &Classes,
     node: usize,
     lists: &[Typing],
-) -> Result<Seq<Typing>, OutOfMemory>
+) -> Result<Typings, OutOfMemory>
     requires inside { node < 98 }
     ensures { IfOk result (λ next. all_widths_of next ≡ flat_map (grown_in classes.now node) (all_widths_of lists.now)) }
 {
@@ -74,7 +77,7 @@ fn add_longer(
     node: usize,
     list: &[Width],
     widths: &[Width],
-    next: &mut Seq<Typing>,
+    next: &mut Typings,
 ) -> Result<(), OutOfMemory>
     requires inside { node < 98 }
     ensures { OnOk result (all_widths_of next.new ≡ all_widths_of next.old ++ map (longer list.now) (filter (fits_in classes.now list.now node) widths.now)) }

@@ -1,20 +1,17 @@
 //! All typings of a rule, or why they are of no use.
 
-ghost use Rattle.std.specs.Prelude.{◌≡◌, ◌<◌, ◌≤◌, ℕ, Err, IfOk, [], length, map};
-ghost use Rattle.rule_term.specs.Typings.{typings};
+ghost use Rattle.std.specs.Prelude.{◌≡◌, ◌<◌, ◌≤◌, ℕ, true, Err, IfOk, [], length};
+ghost use Rattle.std.specs.List.{All};
+ghost use Rattle.rule_term.specs.Typings.{is_typing, typings};
 ghost use Rattle.size_infer.specs.Grown.{all_widths_of};
 ghost use Rattle.size_infer.specs.declared.fault.SizeFault.TheVariants.{Ambiguous, Contradiction, TooMany};
 ghost use Rattle.size_laws.specs.Ambiguous.{IsDefinite, IsFirstAmbiguous};
 
 use crate::fault::SizeFault;
 use crate::found::found_of;
-use crate::grow::all_lists;
-use nir_host::Seq;
-use rule_term::{Rule, Typing};
+use crate::grow::{Typings, all_lists};
+use rule_term::Rule;
 use std::alloc::Global;
-
-/// Typings of a rule in lexicographic order, 1 bit before 8, 16, 32 and 64.
-pub type Typings = Seq<Typing>;
 
 /// All typings of the rule, of which there are 1 to 64. `Contradiction` exactly where there is none; else `Ambiguous` exactly
 /// where two agree on the search side and differ at a node of the replacement, with the first such node; else `TooMany`
@@ -22,6 +19,7 @@ pub type Typings = Seq<Typing>;
 /// number of the rule's nodes, of which there are at most 98.
 pub fn typings(alloc: Global, rule: &Rule) -> Result<Typings, SizeFault>
     ensures all { IfOk result (λ list. all_widths_of list ≡ typings rule.now) }
+    ensures each { IfOk result (λ list. All (λ typing. is_typing rule.now typing.widths ≡ true) list) }
     ensures some { IfOk result (λ list. 1 ≤ length list) }
     ensures few { IfOk result (λ list. length list ≤ 64) }
     ensures definite { IfOk result (λ list. IsDefinite rule.now) }

@@ -13,4 +13,5 @@ mod walk;
 mod width_set;
 
 pub use fault::SizeFault;
-pub use infer::{Typings, typings};
+pub use grow::Typings;
+pub use infer::typings;

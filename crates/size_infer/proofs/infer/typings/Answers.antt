@@ -1,6 +1,6 @@
 use Rattle.std.proofs.Common.{◌≡◌, ◌∙◌, sym, subst, arith}
 use Rattle.size_laws.specs.Ambiguous.{IsFirstAmbiguous}
-use Rattle.size_infer.proofs.OptionLemmas.{all_typings, as_many, few_lists, few_nodes, first_two, found_none, found_one, more_lists, no_two, none_for, some_list}
+use Rattle.size_infer.proofs.OptionLemmas.{all_typings, as_many, each_typing, few_lists, few_nodes, first_two, found_none, found_one, more_lists, no_two, none_for, some_list}
 use Rattle.size_infer.proofs.infer.typings.Goals as goal
 
 pub overflow_add-nodes : goal.overflow_add-nodes
@@ -38,6 +38,9 @@ returns-then-are_too_many-clause-too_many_definite c _ = no_two c.args.rule.now 
 
 pub returns-clause-all : goal.returns-clause-all
 returns-clause-all c = all_typings c.args.rule.now c.in_ok-found.found c.in_ok-found.ensures c.in_ok-list.list c.in_ok-list.ensures
+
+pub returns-clause-each : goal.returns-clause-each
+returns-clause-each c = each_typing c.args.rule.now c.in_ok-list.list (all_typings c.args.rule.now c.in_ok-found.found c.in_ok-found.ensures c.in_ok-list.list c.in_ok-list.ensures)
 
 pub returns-clause-some : goal.returns-clause-some
 returns-clause-some c =
