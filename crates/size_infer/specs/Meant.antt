@@ -7,6 +7,7 @@ use Rattle.size_infer.specs.declared.size_rule.SizeRule.{SizeRule}
 use Rattle.size_infer.specs.declared.size_rule.SizeRule.TheVariants as code
 use Rattle.size_infer.specs.declared.size_rule.Spot.{Spot}
 
+-- what a rule of the code asks
 abbrev pub meant : SizeRule → place.SizeRule
 meant (code.Same one other) = place.Same one other
 meant (code.Within p set) = place.Only p (set_has set)

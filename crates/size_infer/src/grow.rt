@@ -110,6 +110,7 @@ impl Classes {
         if first == node {
             return self.sets[node].has(width);
         }
+        // The first of a class stands before its other nodes, so its size is among those before.
         same_width(width, before.get(first).copied().unwrap_or(Width::W1))
     }
 }

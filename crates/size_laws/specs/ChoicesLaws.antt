@@ -1,5 +1,5 @@
 -- The refusals: no list, two lists that agree before a place and differ at it, and more than so many.
-use Rattle.std.proofs.Common.{◌≡◌, refl, ℕ, zero, suc, ◌+◌, ◌*◌, ◌≤◌, ◌<◌, Bool, true, false, not, ◌&&◌, ◌||◌, cond, List, [], ◌∷◌, length, filter, flat_map, nat_eq, sym, ◌∙◌, ap, subst, arith, ⊎_elim, mul_comm, suc-mul}
+use Rattle.std.proofs.Common.{◌≡◌, refl, ℕ, zero, suc, ◌+◌, ◌*◌, ◌≤◌, ◌<◌, Bool, true, false, not, ◌&&◌, ◌||◌, cond, List, [], ◌∷◌, length, filter, flat_map, nat_eq, sym, ◌∙◌, ap, subst, arith, ◌⊎◌, inl, inr, ⊎_elim, mul_comm, suc-mul}
 use Rattle.std.specs.List.{list_any}
 use Rattle.std.proofs.lemmas.Bool.{and_parts, or_left, or_right, false≢true}
 use Rattle.std.proofs.lemmas.List.{length-append, length-map}
@@ -15,10 +15,6 @@ abbrev pub weigh : Bool → ℕ
 weigh true = 1
 weigh false = 0
 
-weigh_true : (b : Bool) → b ≡ true → weigh b ≡ 1
-weigh_true true e = refl
-weigh_true false e = absurd (false≢true e)
-
 kept_length : (b : Bool) (w : Width) (list : List Width) → length (cond b (w ∷ list) list) ≡ weigh b + length list
 kept_length true w list = omega arith
 kept_length false w list = omega arith
@@ -32,39 +28,57 @@ weighed test =
     let e = kept_length (test W64) W64 [] in
     omega (arith, a, b, c, d, e)
 
-pub two_kept : (test : Width → Bool) (a b : Width) → (a ≡ b → ⊥) → test a ≡ true → test b ≡ true → 2 ≤ length (filter test all_widths)
-two_kept test W1 W1 differs ha hb = absurd (differs refl)
-two_kept test W1 W8 differs ha hb = let x = weigh_true (test W1) ha in let y = weigh_true (test W8) hb in let z = weighed test in omega (arith, x, y, z)
-two_kept test W1 W16 differs ha hb = let x = weigh_true (test W1) ha in let y = weigh_true (test W16) hb in let z = weighed test in omega (arith, x, y, z)
-two_kept test W1 W32 differs ha hb = let x = weigh_true (test W1) ha in let y = weigh_true (test W32) hb in let z = weighed test in omega (arith, x, y, z)
-two_kept test W1 W64 differs ha hb = let x = weigh_true (test W1) ha in let y = weigh_true (test W64) hb in let z = weighed test in omega (arith, x, y, z)
-two_kept test W8 W1 differs ha hb = let x = weigh_true (test W8) ha in let y = weigh_true (test W1) hb in let z = weighed test in omega (arith, x, y, z)
-two_kept test W8 W8 differs ha hb = absurd (differs refl)
-two_kept test W8 W16 differs ha hb = let x = weigh_true (test W8) ha in let y = weigh_true (test W16) hb in let z = weighed test in omega (arith, x, y, z)
-two_kept test W8 W32 differs ha hb = let x = weigh_true (test W8) ha in let y = weigh_true (test W32) hb in let z = weighed test in omega (arith, x, y, z)
-two_kept test W8 W64 differs ha hb = let x = weigh_true (test W8) ha in let y = weigh_true (test W64) hb in let z = weighed test in omega (arith, x, y, z)
-two_kept test W16 W1 differs ha hb = let x = weigh_true (test W16) ha in let y = weigh_true (test W1) hb in let z = weighed test in omega (arith, x, y, z)
-two_kept test W16 W8 differs ha hb = let x = weigh_true (test W16) ha in let y = weigh_true (test W8) hb in let z = weighed test in omega (arith, x, y, z)
-two_kept test W16 W16 differs ha hb = absurd (differs refl)
-two_kept test W16 W32 differs ha hb = let x = weigh_true (test W16) ha in let y = weigh_true (test W32) hb in let z = weighed test in omega (arith, x, y, z)
-two_kept test W16 W64 differs ha hb = let x = weigh_true (test W16) ha in let y = weigh_true (test W64) hb in let z = weighed test in omega (arith, x, y, z)
-two_kept test W32 W1 differs ha hb = let x = weigh_true (test W32) ha in let y = weigh_true (test W1) hb in let z = weighed test in omega (arith, x, y, z)
-two_kept test W32 W8 differs ha hb = let x = weigh_true (test W32) ha in let y = weigh_true (test W8) hb in let z = weighed test in omega (arith, x, y, z)
-two_kept test W32 W16 differs ha hb = let x = weigh_true (test W32) ha in let y = weigh_true (test W16) hb in let z = weighed test in omega (arith, x, y, z)
-two_kept test W32 W32 differs ha hb = absurd (differs refl)
-two_kept test W32 W64 differs ha hb = let x = weigh_true (test W32) ha in let y = weigh_true (test W64) hb in let z = weighed test in omega (arith, x, y, z)
-two_kept test W64 W1 differs ha hb = let x = weigh_true (test W64) ha in let y = weigh_true (test W1) hb in let z = weighed test in omega (arith, x, y, z)
-two_kept test W64 W8 differs ha hb = let x = weigh_true (test W64) ha in let y = weigh_true (test W8) hb in let z = weighed test in omega (arith, x, y, z)
-two_kept test W64 W16 differs ha hb = let x = weigh_true (test W64) ha in let y = weigh_true (test W16) hb in let z = weighed test in omega (arith, x, y, z)
-two_kept test W64 W32 differs ha hb = let x = weigh_true (test W64) ha in let y = weigh_true (test W32) hb in let z = weighed test in omega (arith, x, y, z)
-two_kept test W64 W64 differs ha hb = absurd (differs refl)
+same_size_or_not : (a x : Width) → (a ≡ x) ⊎ (same_width a x ≡ false)
+same_size_or_not a x =
+    let seen : (t : Bool) → same_width a x ≡ t → (a ≡ x) ⊎ (same_width a x ≡ false)
+    = λ t. elim t as (λ t. same_width a x ≡ t → (a ≡ x) ⊎ (same_width a x ≡ false)) [ true ↦ λ e. inl (same_width-same a x e) | false ↦ λ e. inr e ] in
+    seen (same_width a x) refl
 
-pub one_kept : (test : Width → Bool) (a : Width) → test a ≡ true → 1 ≤ length (filter test all_widths)
-one_kept test W1 h = let x = weigh_true (test W1) h in let z = weighed test in omega (arith, x, z)
-one_kept test W8 h = let x = weigh_true (test W8) h in let z = weighed test in omega (arith, x, z)
-one_kept test W16 h = let x = weigh_true (test W16) h in let z = weighed test in omega (arith, x, z)
-one_kept test W32 h = let x = weigh_true (test W32) h in let z = weighed test in omega (arith, x, z)
-one_kept test W64 h = let x = weigh_true (test W64) h in let z = weighed test in omega (arith, x, z)
+stands_behind : (a x : Width) (list : List Width) → same_width a x ≡ false → list_any (same_width a) (x ∷ list) ≡ true → list_any (same_width a) list ≡ true
+stands_behind a x list e h = sym (ap (λ t. t || list_any (same_width a) list) e) ∙ h
+
+-- a size that passes is kept, and nothing that is kept goes where a list is longer
+first_kept : (test : Width → Bool) (a x : Width) (list : List Width) → a ≡ x → test a ≡ true → length (filter test (x ∷ list)) ≡ 1 + length (filter test list)
+first_kept test a x list same passes =
+    ap (λ t. length (cond t (x ∷ filter test list) (filter test list))) (ap test (sym same) ∙ passes) ∙ omega arith
+
+others_kept : (test : Width → Bool) (x : Width) (list : List Width) → length (filter test list) ≤ length (filter test (x ∷ list))
+others_kept test x list = let e = kept_length (test x) x (filter test list) in omega (arith, e)
+
+kept_one : (test : Width → Bool) (a : Width) (list : List Width) → list_any (same_width a) list ≡ true → test a ≡ true → 1 ≤ length (filter test list)
+kept_one test a [] h passes = absurd (false≢true h)
+kept_one test a (x ∷ list) h passes = ⊎_elim
+    (λ same. let first = first_kept test a x list same passes in omega (arith, first))
+    (λ e. let inner = kept_one test a list (stands_behind a x list e h) passes in let more = others_kept test x list in omega (arith, inner, more))
+    (same_size_or_not a x)
+
+kept_two : (test : Width → Bool) (a b : Width) (list : List Width) → (a ≡ b → ⊥) → list_any (same_width a) list ≡ true → list_any (same_width b) list ≡ true
+    → test a ≡ true → test b ≡ true → 2 ≤ length (filter test list)
+kept_two test a b [] differs ha hb pa pb = absurd (false≢true ha)
+kept_two test a b (x ∷ list) differs ha hb pa pb = ⊎_elim
+    (λ same. ⊎_elim
+    (λ too. absurd (differs (same ∙ sym too)))
+    (λ e. let inner = kept_one test b list (stands_behind b x list e hb) pb in let first = first_kept test a x list same pa in omega (arith, inner, first))
+    (same_size_or_not b x))
+    (λ d. ⊎_elim
+    (λ too. let inner = kept_one test a list (stands_behind a x list d ha) pa in let first = first_kept test b x list too pb in omega (arith, inner, first))
+    (λ e.
+    let inner = kept_two test a b list differs (stands_behind a x list d ha) (stands_behind b x list e hb) pa pb in
+    let more = others_kept test x list in
+    omega (arith, inner, more))
+    (same_size_or_not b x))
+    (same_size_or_not a x)
+
+-- each size is one of all
+one_of_all : (a : Width) → list_any (same_width a) all_widths ≡ true
+one_of_all W1 = refl
+one_of_all W8 = refl
+one_of_all W16 = refl
+one_of_all W32 = refl
+one_of_all W64 = refl
+
+pub two_kept : (test : Width → Bool) (a b : Width) → (a ≡ b → ⊥) → test a ≡ true → test b ≡ true → 2 ≤ length (filter test all_widths)
+two_kept test a b differs pa pb = kept_two test a b all_widths differs (one_of_all a) (one_of_all b) pa pb
 
 pub record Kept (test : Width → Bool) (among : List Width) : Type 0 where
   pub width : Width

@@ -4,9 +4,9 @@ use Rattle.std.proofs.lemmas.Bool.{and_parts, and_from, eqb-true}
 use Rattle.nir_ops.specs.declared.width.Width.{Width}
 use Rattle.op_eval.specs.Calls.{same_width}
 use Rattle.op_eval.specs.Sizes.{same_width-same, same_width-from_equal}
-use Rattle.size_laws.specs.Places.{SizeRule, Same, all_hold}
+use Rattle.size_laws.specs.Places.{SizeRule, all_hold}
 use Rattle.size_laws.specs.ProductLaws.{same_truth}
-use Rattle.size_laws.specs.NodeRulesLaws.{rules_with, all_hold-append}
+use Rattle.size_laws.specs.NodeRulesLaws.{rules_with, all_hold-append, alike_case}
 use Rattle.size_laws.specs.NodeRules.{VarPlace, link_rules, next_place}
 
 module _ (w : ℕ → Width) where
@@ -15,13 +15,9 @@ module _ (w : ℕ → Width) where
   one_size v x [] = true
   one_size v x (q ∷ rest) = (not (nat_eq v q.var) || same_width x (w q.place)) && one_size v x rest
 
-  with_case : (p q : VarPlace) (more : List SizeRule) (b : Bool) → ((not b || same_width (w p.place) (w q.place)) && all_hold w more) ≡ all_hold w (cond b (Same p.place q.place ∷ more) more)
-  with_case p q more true = refl
-  with_case p q more false = refl
-
   pub with_is : (p : VarPlace) (list : List VarPlace) → one_size p.var (w p.place) list ≡ all_hold w (rules_with p list)
   with_is p [] = refl
-  with_is p (q ∷ rest) = ap (λ t. (not (nat_eq p.var q.var) || same_width (w p.place) (w q.place)) && t) (with_is p rest) ∙ with_case p q (rules_with p rest) (nat_eq p.var q.var)
+  with_is p (q ∷ rest) = ap (λ t. (not (nat_eq p.var q.var) || same_width (w p.place) (w q.place)) && t) (with_is p rest) ∙ alike_case w p q (rules_with p rest) (nat_eq p.var q.var)
 
   -- linked: what stands behind the next has its size
   size_behind : (v : ℕ) (own : ℕ) (list : List VarPlace) → all_hold w (link_rules list) ≡ true → one_size v (w (next_place v list own)) list ≡ true

@@ -136,7 +136,7 @@ module _ (w : ℕ → Width) where
       ∙ ap (λ l. map shown (var_places args (k + 1)) ++ l) (occurrences_placed rest (k + suc (size_of args)) (drop (suc (size_of args)) widths) (shows_drop widths k m (suc (size_of args)) (size_of rest) shows (omega arith)))
       ∙ sym (map-append shown (var_places args (k + 1)) (var_places rest (k + suc (size_of args))))
 
-  alike_case : (p q : VarPlace) (more : List SizeRule) (b : Bool) → ((not b || same_width (w p.place) (w q.place)) && all_hold w more) ≡ all_hold w (cond b (Same p.place q.place ∷ more) more)
+  pub alike_case : (p q : VarPlace) (more : List SizeRule) (b : Bool) → ((not b || same_width (w p.place) (w q.place)) && all_hold w more) ≡ all_hold w (cond b (Same p.place q.place ∷ more) more)
   alike_case p q more true = refl
   alike_case p q more false = refl
 

@@ -158,12 +158,14 @@ module _ (n : ℕ) (f : ℕ → ℕ) (naming : IsNaming n f) (ok : ℕ → Width
       ∙ grow_filter k (width_lists k) (width_lists-length k)
       ∙ ap (flat_map (grown f ok k)) (filter_is_product k)
 
-filter_same : (p q : List Width → Bool) → ((list : List Width) → p list ≡ q list) → (lists : List (List Width)) → filter p lists ≡ filter q lists
-filter_same p q same [] = refl
-filter_same p q same (list ∷ lists) = ap (λ t. cond t (list ∷ filter p lists) (filter p lists)) (same list) ∙ ap (λ l. cond (q list) (list ∷ l) l) (filter_same p q same lists)
+-- tests that agree on lists of a length keep the same of them
+pub filter_same : (n : ℕ) (p q : List Width → Bool) → ((list : List Width) → length list ≡ n → p list ≡ q list) → (lists : List (List Width)) → AllByRecursion (λ list. length list ≡ n) lists → filter p lists ≡ filter q lists
+filter_same n p q same [] all = refl
+filter_same n p q same (list ∷ lists) all = ap (λ t. cond t (list ∷ filter p lists) (filter p lists)) (same list all.0) ∙ ap (λ l. cond (q list) (list ∷ l) l) (filter_same n p q same lists all.1)
 
 -- all solutions of the rules, in lexicographic order
 pub solutions_are_product : (n : ℕ) (rules : List SizeRule) → all_within n rules ≡ true → filter (λ widths. all_hold (at widths) rules) (width_lists n) ≡ product (classes rules) (allowed (classes rules) rules) n
 solutions_are_product n rules h =
-    filter_same (λ widths. all_hold (at widths) rules) (λ widths. fit_below (classes rules) (allowed (classes rules) rules) widths n) (holds_is_fit n rules h) (width_lists n)
+    filter_same n (λ widths. all_hold (at widths) rules) (λ widths. fit_below (classes rules) (allowed (classes rules) rules) widths n) (λ list count. holds_is_fit n rules h list)
+    (width_lists n) (width_lists-length n)
     ∙ filter_is_product n (classes rules) (the_naming n rules h) (allowed (classes rules) rules) n

@@ -1,6 +1,6 @@
 -- The typings of a rule are the lists of sizes that its size rules allow: a product over classes of nodes.
-use Rattle.std.proofs.Common.{◌≡◌, refl, ℕ, suc, ◌+◌, ◌≤◌, Bool, true, false, ◌&&◌, cond, Option, Some, None, List, [], ◌∷◌, ◌++◌, length, map, filter, nat_eq, nat_lt, sym, ◌∙◌, ap, arith, get_or-drop, get_or-take}
-use Rattle.std.specs.List.{AllByRecursion, list_all}
+use Rattle.std.proofs.Common.{◌≡◌, refl, ℕ, suc, ◌+◌, ◌≤◌, Bool, true, false, ◌&&◌, cond, Option, Some, None, List, [], ◌∷◌, ◌++◌, length, map, nat_eq, nat_lt, sym, ◌∙◌, ap, arith, get_or-drop, get_or-take}
+use Rattle.std.specs.List.{list_all}
 use Rattle.std.proofs.Math.Bool.{and_assoc}
 use Rattle.std.proofs.lemmas.Bool.{and_parts, and_from, eq-eqb, lt-ltb}
 use Rattle.std.proofs.lemmas.List.{map-append}
@@ -17,7 +17,7 @@ use Rattle.rule_term.specs.OneTyping.{width_lists-length}
 use Rattle.rule_term.specs.Formed.{IsFormed}
 use Rattle.size_laws.specs.ThensLaws.{searches, replaces}
 use Rattle.size_laws.specs.Places.{Same, at, all_hold, within, all_within, classes, allowed, product}
-use Rattle.size_laws.specs.ProductLaws.{solutions_are_product}
+use Rattle.size_laws.specs.ProductLaws.{filter_same, solutions_are_product}
 use Rattle.size_laws.specs.NodeRulesLaws.{all_hold-append, all_within-append, shown, Shows, obeys_holds, occurrences_placed, agree_holds, shows_first}
 use Rattle.size_laws.specs.PairsLaws.{pairs_are_links}
 use Rattle.size_laws.specs.NodeRules.{VarPlace, link_rules, linked_rules, next_place, node_count, op_rules, root_places, rule_places, rules_of, source_rule, source_rules, unsized_place, var_places}
@@ -128,10 +128,6 @@ links_within n (p ∷ rest) h =
     and_from (nat_lt p.place n && nat_lt (next_place p.var rest p.place) n) (all_within n (link_rules rest))
     (and_from (nat_lt p.place n) (nat_lt (next_place p.var rest p.place) n) parts.0 (next_within n p.var p.place rest parts.0 parts.1))
     (links_within n rest parts.1)
-
-filter_same : (n : ℕ) (p q : List Width → Bool) → ((list : List Width) → length list ≡ n → p list ≡ q list) → (lists : List (List Width)) → AllByRecursion (λ list. length list ≡ n) lists → filter p lists ≡ filter q lists
-filter_same n p q same [] all = refl
-filter_same n p q same (list ∷ lists) all = ap (λ t. cond t (list ∷ filter p lists) (filter p lists)) (same list all.0) ∙ ap (λ l. cond (q list) (list ∷ l) l) (filter_same n p q same lists all.1)
 
 module _ (rule : Rule) (searches : 1 ≤ size_of rule.search) (replaces : 1 ≤ size_of rule.replace) where
   pub size_rules_within : all_within (node_count rule) (linked_rules rule) ≡ true
