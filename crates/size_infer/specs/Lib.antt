@@ -1,0 +1,5 @@
+pub mod Sets
+pub mod Meant
+pub mod Options
+pub mod Grown
+pub mod FoundFor

@@ -1,0 +1,16 @@
+pub mod Places
+pub mod NodeRules
+pub mod Ambiguous
+pub mod AmbiguousWorked
+pub mod ClassesLaws
+pub mod LongerLaws
+pub mod ProductLaws
+pub mod ChoicesLaws
+pub mod DifferLaws
+pub mod NodeRulesLaws
+pub mod LinksLaws
+pub mod PairsLaws
+pub mod TypingsLaws
+pub mod OutcomesLaws
+pub mod StepsLaws
+pub mod ThensLaws
