@@ -2,7 +2,7 @@
 use Rattle.std.specs.Prelude.{ℕ, ℤ, pos, List, [], ◌∷◌, Option, Some, None, Result, Ok, Err}
 use Rattle.nir_lex.specs.declared.token.TokenKind.{TokenKind}
 use Rattle.nir_lex.specs.declared.token.TokenKind.TheVariants.{Word, Number, Name, Quoted, Punct, End}
-use Rattle.grammar.specs.Terminals.{Terminal, Class, TheWord, TheMark, ANumber, TheEnd}
+use Rattle.grammar.specs.Terminals.{Class, TheWord, TheMark, ANumber, TheEnd}
 use Rattle.grammar.specs.Lookahead.{Lookahead, nothing, one, ◌⨟◌, ◌∪◌, star}
 use Rattle.grammar.specs.Grammar.{Vocabulary, Grammar, empty, terminal, sequence, choice, repetition}
 
