@@ -23,7 +23,8 @@ two_words word other text e h k =
     both_ways (bytes_eq word other) (not-true (bytes_eq word other) e)
     (same_bytes word other (sym (bytes_same text word h) ∙ bytes_same text other k))
 
-excluded_word : (word : List ℕ) (words : List (List ℕ)) (text : List ℕ) → is_among word words ≡ true → bytes_eq text word ≡ true → not (is_among text words) ≡ true → ⊥
+excluded_word : (word : List ℕ) (words : List (List ℕ)) (text : List ℕ) → is_among word words ≡ true → bytes_eq text word ≡ true
+    → not (is_among text words) ≡ true → ⊥
 excluded_word word words text e h k =
     both_ways (is_among text words) (not-true (is_among text words) k)
     (subst (λ w. is_among w words ≡ true) (sym (bytes_same text word h)) e)

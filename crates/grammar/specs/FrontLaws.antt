@@ -6,7 +6,7 @@ use Rattle.grammar.specs.Lookahead.{Lookahead}
 use Rattle.grammar.specs.Spelling.{Behind, Spelling, SpellsEach, Spells}
 
 module _ (voc : Vocabulary) where
-  -- these signs spell it, whatever stands behind
+  -- these terminals spell it, whatever stands behind
   abbrev pub Front : {A : Type 0} → Spelling voc A → voc.state → A → List Terminal → voc.state → Type 1
   Front S x a front y = (K : Behind voc) (vs : List Terminal) → K y vs → S x a K (front ++ vs)
 
@@ -38,14 +38,17 @@ module _ (voc : Vocabulary) where
         rest = g.rest;
         same = front_after f.front g.front f.rest g.rest ts f.same g.same;
         behind = g.behind;
-        spells = λ K vs k. subst (S x (Some a) (λ y. SpellsEach voc S y others K)) (sym (append_assoc f.front g.front vs)) (f.spells (λ y. SpellsEach voc S y others K) (g.front ++ vs) (g.spells K vs k));
+        spells =
+            λ K vs k. subst (S x (Some a) (λ y. SpellsEach voc S y others K)) (sym (append_assoc f.front g.front vs))
+            (f.spells (λ y. SpellsEach voc S y others K) (g.front ++ vs) (g.spells K vs k));
       }
 
   module _ (S : (n : voc.nonterminal) → Spelling voc (voc.denoted n)) (env : (n : voc.nonterminal) → HasFronts (S n)) where
     pub fronts : {p : Lookahead} {A : Type 0} (g : Grammar voc p A) → HasFronts (Spells voc S g)
     fronts (empty b) x a K ts s = record { front = []; state = x; rest = ts; same = refl; behind = s.1; spells = λ K vs k. (s.0, k) }
     fronts (terminal class take) x a K [] s = absurd s
-    fronts (terminal class take) x a K (t ∷ ts) s = record { front = t ∷ []; state = s.0; rest = ts; same = refl; behind = s.3; spells = λ K vs k. (s.0, s.1, s.2, k) }
+    fronts (terminal class take) x a K (t ∷ ts) s =
+        record { front = t ∷ []; state = s.0; rest = ts; same = refl; behind = s.3; spells = λ K vs k. (s.0, s.1, s.2, k) }
     fronts (sequence g h) x a K ts s =
         let f = fronts g x s.0 (λ y. Spells voc S (h s.0) y a K) ts s.1 in
         let l = fronts (h s.0) f.state a K f.rest f.behind in
@@ -55,7 +58,12 @@ module _ (voc : Vocabulary) where
           rest = l.rest;
           same = front_after f.front l.front f.rest l.rest ts f.same l.same;
           behind = l.behind;
-          spells = λ K vs k. (s.0, subst (Spells voc S g x s.0 (λ y. Spells voc S (h s.0) y a K)) (sym (append_assoc f.front l.front vs)) (f.spells (λ y. Spells voc S (h s.0) y a K) (l.front ++ vs) (l.spells K vs k)));
+          spells =
+              λ K vs k. (
+                s.0,
+                subst (Spells voc S g x s.0 (λ y. Spells voc S (h s.0) y a K)) (sym (append_assoc f.front l.front vs))
+                    (f.spells (λ y. Spells voc S (h s.0) y a K) (l.front ++ vs) (l.spells K vs k)),
+              );
         }
     fronts (choice g h) x a K ts (inl s) =
         let f = fronts g x a K ts s in

@@ -1,4 +1,4 @@
--- Grammars as data: productions of terminals, sequences, choices, repetitions and nonterminals, each of which denotes a value (attribute grammars, with a state that goes from left to right).
+-- Grammars as data: terminals, sequences, choices, repetitions and nonterminals, each of which denotes a value (L-attributed grammars).
 use Rattle.std.specs.Prelude.{◌≡◌, Bool, true, false, not, ◌&&◌, List, Option, Result}
 use Rattle.grammar.specs.Terminals.{Terminal, Class}
 use Rattle.grammar.specs.Lookahead.{Lookahead, nothing, one, ◌⨟◌, ◌∪◌, star, within}

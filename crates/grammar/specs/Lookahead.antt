@@ -1,4 +1,4 @@
--- What one terminal ahead tells of a grammar: null, FIRST and FLAST of each combination, and whether they keep its choices apart (Krishnaswami and Yallop, A typed, algebraic approach to parsing).
+-- What one terminal ahead tells of a grammar: its NULL, FIRST and FLAST (Krishnaswami and Yallop, A typed, algebraic approach to parsing).
 use Rattle.std.specs.Prelude.{Bool, true, false, not, ◌&&◌, ◌||◌, List, [], ◌∷◌, ◌++◌}
 use Rattle.grammar.specs.Terminals.{Class, all_apart, all_included}
 

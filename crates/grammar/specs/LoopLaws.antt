@@ -37,7 +37,8 @@ module _ (voc : Vocabulary) {A : Type 0} where
         ap (λ k. items_at k x ts) turns ∙ cond_true (starts firsts ts) _ _ _ e (ap (λ o. and_then voc o (item_step (n - (i + 1)))) h)
 
     -- an item was read: it stands behind those before it
-    pub turn_goes : (i n : ℕ) (front : List A) (x : voc.state) (ts : List Terminal) (a : A) (y : voc.state) (us : List Terminal) (total : Outcome voc (List A))
+    pub turn_goes : (i n : ℕ) (front : List A) (x : voc.state) (ts : List Terminal) (a : A) (y : voc.state) (us : List Terminal)
+        (total : Outcome voc (List A))
         → i < n → starts firsts ts ≡ true → item x ts ≡ Ok (record { value = Some a; state = y; rest = us })
         → with_front front (items_at (n - i) x ts) ≡ total → with_front (front ++ a ∷ []) (items_at (n - (i + 1)) y us) ≡ total
     turn_goes i n front x ts a y us total l e h so_far =
@@ -48,7 +49,8 @@ module _ (voc : Vocabulary) {A : Type 0} where
         → i < n → starts firsts ts ≡ true → item x ts ≡ Ok (record { value = None; state = y; rest = us })
         → with_front front (items_at (n - i) x ts) ≡ total → total ≡ Ok (record { value = front; state = y; rest = us })
     turn_closes i n front x ts y us total l e h so_far =
-        sym so_far ∙ ap (with_front front) (one_turn i n x ts _ l e h) ∙ ap (λ (v : List A). Ok (record { value = v; state = y; rest = us })) (append-nil front)
+        sym so_far ∙ ap (with_front front) (one_turn i n x ts _ l e h)
+        ∙ ap (λ (v : List A). Ok (record { value = v; state = y; rest = us })) (append-nil front)
 
     -- the item is not read, and so the items are not
     pub turn_fails : (i n : ℕ) (front : List A) (x : voc.state) (ts : List Terminal) (e : Stop voc) (total : Outcome voc (List A))
@@ -60,14 +62,16 @@ module _ (voc : Vocabulary) {A : Type 0} where
     pub turn_ends : (i n : ℕ) (front : List A) (x : voc.state) (ts : List Terminal) (total : Outcome voc (List A)) → starts firsts ts ≡ false
         → with_front front (items_at (n - i) x ts) ≡ total → total ≡ Ok (record { value = front; state = x; rest = ts })
     turn_ends i n front x ts total s so_far =
-        sym so_far ∙ ap (with_front front) (each_stops voc firsts item (n - i) x ts s) ∙ ap (λ (v : List A). Ok (record { value = v; state = x; rest = ts })) (append-nil front)
+        sym so_far ∙ ap (with_front front) (each_stops voc firsts item (n - i) x ts s)
+        ∙ ap (λ (v : List A). Ok (record { value = v; state = x; rest = ts })) (append-nil front)
 
     -- no turn is left
     pub turns_end : (i n : ℕ) (front : List A) (x : voc.state) (ts : List Terminal) (total : Outcome voc (List A)) → n ≤ i
         → with_front front (items_at (n - i) x ts) ≡ total → total ≡ Ok (record { value = front; state = x; rest = ts })
     turns_end i n front x ts total l so_far =
         let turns : n - i ≡ 0 = omega arith in
-        sym so_far ∙ ap (λ k. with_front front (items_at k x ts)) turns ∙ ap (λ (v : List A). Ok (record { value = v; state = x; rest = ts })) (append-nil front)
+        sym so_far ∙ ap (λ k. with_front front (items_at k x ts)) turns
+        ∙ ap (λ (v : List A). Ok (record { value = v; state = x; rest = ts })) (append-nil front)
 
   -- ---- items that a grammar reads
 

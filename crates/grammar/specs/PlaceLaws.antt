@@ -1,4 +1,4 @@
--- What is left of a text is the end of it: so a fault has a place, the number of signs before it.
+-- What is left of a text is the end of it, so a fault has a place: the number of terminals before it.
 use Rattle.std.proofs.Common.{◌≡◌, ℕ, zero, suc, Bool, true, false, cond, List, [], ◌∷◌, ◌++◌, length, Option, Some, None, Result, Ok, Err, refl, sym, ap, ◌∙◌, append_assoc}
 use Rattle.grammar.specs.Terminals.{Terminal, Class, has, starts}
 use Rattle.grammar.specs.Grammar.{Vocabulary, Grammar, empty, terminal, sequence, choice, repetition, named, widened, Productions}
@@ -24,7 +24,8 @@ module _ (voc : Vocabulary) where
   leaves_of ts us (Ok f) e l = further ts us f.rest e l
   leaves_of ts us (Err s) e l = further ts us s.rest e l
 
-  then_leaves : {A B : Type 0} (ts : List Terminal) (o : Outcome voc A) (k : Reading voc A → Outcome voc B) → Leaves ts o → ((f : Reading voc A) → Leaves f.rest (k f)) → Leaves ts (and_then voc o k)
+  then_leaves : {A B : Type 0} (ts : List Terminal) (o : Outcome voc A) (k : Reading voc A → Outcome voc B) → Leaves ts o
+      → ((f : Reading voc A) → Leaves f.rest (k f)) → Leaves ts (and_then voc o k)
   then_leaves ts (Ok f) k l later = leaves_of ts f.rest (k f) l (later f)
   then_leaves ts (Err e) k l later = l
 
@@ -42,7 +43,8 @@ module _ (voc : Vocabulary) where
   each_leaves : {A : Type 0} (firsts : List Class) (R : Reader voc (Option A)) → IsLeaving R → (n : ℕ) → IsLeaving (read_each voc firsts R n)
   each_leaves firsts R h zero x ts = whole ts
   each_leaves firsts R h (suc n) x ts =
-      cond_leaves ts (starts firsts ts) (and_then voc (R x ts) (λ f. item_then voc f.value f (read_each voc firsts R n))) (Ok (record { value = []; state = x; rest = ts }))
+      cond_leaves ts (starts firsts ts) (and_then voc (R x ts) (λ f. item_then voc f.value f (read_each voc firsts R n)))
+      (Ok (record { value = []; state = x; rest = ts }))
       (then_leaves ts (R x ts) _ (h x ts) (λ f. item_leaves f.value f (read_each voc firsts R n) (each_leaves firsts R h n)))
       (whole ts)
 
@@ -50,12 +52,18 @@ module _ (voc : Vocabulary) where
   takes_leaves s ts (Ok t) = (s ∷ [], refl)
   takes_leaves s ts (Err e) = whole (s ∷ ts)
 
-  pub read_leaves : (R : (n : voc.nonterminal) → Reader voc (voc.denoted n)) → ((n : voc.nonterminal) → IsLeaving (R n)) → {p : Lookahead} {A : Type 0} (g : Grammar voc p A) → IsLeaving (read voc R g)
+  pub read_leaves : (R : (n : voc.nonterminal) → Reader voc (voc.denoted n)) → ((n : voc.nonterminal) → IsLeaving (R n))
+      → {p : Lookahead} {A : Type 0} (g : Grammar voc p A) → IsLeaving (read voc R g)
   read_leaves R env (empty a) x ts = whole ts
   read_leaves R env (terminal class take) x [] = whole []
-  read_leaves R env (terminal class take) x (s ∷ ts) = cond_leaves (s ∷ ts) (has class s) (taken voc (s ∷ ts) (take x s) ts) (stopped voc voc.expected (s ∷ ts)) (takes_leaves s ts (take x s)) (whole (s ∷ ts))
-  read_leaves R env (sequence g h) x ts = then_leaves ts (read voc R g x ts) (λ f. read voc R (h f.value) f.state f.rest) (read_leaves R env g x ts) (λ f. read_leaves R env (h f.value) f.state f.rest)
-  read_leaves R env (choice {p = p} {q = q} g h) x ts = cond_leaves ts (takes_first voc p q ts) (read voc R g x ts) (read voc R h x ts) (read_leaves R env g x ts) (read_leaves R env h x ts)
+  read_leaves R env (terminal class take) x (s ∷ ts) =
+      cond_leaves (s ∷ ts) (has class s) (taken voc (s ∷ ts) (take x s) ts) (stopped voc voc.expected (s ∷ ts)) (takes_leaves s ts (take x s))
+      (whole (s ∷ ts))
+  read_leaves R env (sequence g h) x ts =
+      then_leaves ts (read voc R g x ts) (λ f. read voc R (h f.value) f.state f.rest) (read_leaves R env g x ts)
+      (λ f. read_leaves R env (h f.value) f.state f.rest)
+  read_leaves R env (choice {p = p} {q = q} g h) x ts =
+      cond_leaves ts (takes_first voc p q ts) (read voc R g x ts) (read voc R h x ts) (read_leaves R env g x ts) (read_leaves R env h x ts)
   read_leaves R env (repetition {p = p} g) x ts = each_leaves p.firsts (read voc R g) (read_leaves R env g) (length ts) x ts
   read_leaves R env (named n) x ts = env n x ts
   read_leaves R env (widened q sub g) x ts = read_leaves R env g x ts
@@ -68,7 +76,8 @@ module _ (voc : Vocabulary) where
   rest_or us (Ok t) = us
   rest_or us (Err e) = e.rest
 
-  at_leaves : {A : Type 0} (ts : List Terminal) (b : A) (y : voc.state) (us : List Terminal) (e : Stop voc) → IsEnd ts us → at_end voc b y us ≡ Err e → IsEnd ts e.rest
+  at_leaves : {A : Type 0} (ts : List Terminal) (b : A) (y : voc.state) (us : List Terminal) (e : Stop voc) → IsEnd ts us → at_end voc b y us ≡ Err e
+      → IsEnd ts e.rest
   unfolding rest_or
   at_leaves ts b y [] e l h = absurd cc
   at_leaves ts b y (u ∷ us) e l h = (l.0, l.1 ∙ ap (λ us. l.0 ++ us) (ap (λ o. rest_or (u ∷ us) o) h))
@@ -79,5 +88,7 @@ module _ (voc : Vocabulary) where
   ended_leaves {A} ts (Err s) e l h = (l.0, l.1 ∙ ap (λ us. l.0 ++ us) (ap (λ o. rest_or {A = A} s.rest o) h))
 
   -- a fault stands somewhere in the text
-  pub fault_stands : (productions : Productions voc) {p : Lookahead} {A : Type 0} (g : Grammar voc p A) (d : ℕ) (x : voc.state) (ts : List Terminal) (e : Stop voc) → read_text voc productions g d x ts ≡ Err e → IsEnd ts e.rest
-  fault_stands productions g d x ts e h = ended_leaves ts (read voc (read_to voc productions d) g x ts) e (read_leaves (read_to voc productions d) (depth_leaves productions d) g x ts) h
+  pub fault_stands : (productions : Productions voc) {p : Lookahead} {A : Type 0} (g : Grammar voc p A) (d : ℕ) (x : voc.state) (ts : List Terminal)
+      (e : Stop voc) → read_text voc productions g d x ts ≡ Err e → IsEnd ts e.rest
+  fault_stands productions g d x ts e h =
+      ended_leaves ts (read voc (read_to voc productions d) g x ts) e (read_leaves (read_to voc productions d) (depth_leaves productions d) g x ts) h

@@ -1,4 +1,4 @@
--- What a grammar spells: the relation of a value, a state before it, and a text that begins with what denotes it (the language of a grammar, told by recursion on the grammar).
+-- What a grammar spells: which texts begin with what denotes a value, from a state (the language of a grammar, by recursion on it).
 use Rattle.std.specs.Prelude.{◌≡◌, ℕ, zero, suc, true, List, [], ◌∷◌, Option, Some, None, Ok, ◌⊎◌}
 use Rattle.grammar.specs.Terminals.{Terminal, Class, has}
 use Rattle.grammar.specs.Lookahead.{Lookahead}

@@ -71,7 +71,8 @@ module _ (voc : Vocabulary) where
   each_behind_comma item = repetition (sequence (mark 44) (λ _. sequence item (λ a. empty (Some a))))
 
   -- any number of items, each behind a comma, and maybe a comma behind them
-  abbrev pub each_behind_comma_then_maybe_one : {p : Lookahead} {A : Type 0} → Grammar voc p A → Grammar voc (star (one (TheMark 44) ⨟ ((p ⨟ nothing) ∪ nothing))) (List A)
+  abbrev pub each_behind_comma_then_maybe_one : {p : Lookahead} {A : Type 0} → Grammar voc p A
+      → Grammar voc (star (one (TheMark 44) ⨟ ((p ⨟ nothing) ∪ nothing))) (List A)
   each_behind_comma_then_maybe_one item = repetition (sequence (mark 44) (λ _. optional item))
 
   -- one item at least, with commas between them
@@ -79,7 +80,8 @@ module _ (voc : Vocabulary) where
   separated item = sequence item (λ first. sequence (each_behind_comma item) (λ others. empty (first ∷ others)))
 
   -- one item at least, with commas between them, and maybe a comma behind them
-  abbrev pub listed : {p : Lookahead} {A : Type 0} → Grammar voc p A → Grammar voc (p ⨟ star (one (TheMark 44) ⨟ ((p ⨟ nothing) ∪ nothing)) ⨟ nothing) (List A)
+  abbrev pub listed : {p : Lookahead} {A : Type 0} → Grammar voc p A
+      → Grammar voc (p ⨟ star (one (TheMark 44) ⨟ ((p ⨟ nothing) ∪ nothing)) ⨟ nothing) (List A)
   listed item = sequence item (λ first. sequence (each_behind_comma_then_maybe_one item) (λ others. empty (first ∷ others)))
 
   -- these items, or none
@@ -87,5 +89,6 @@ module _ (voc : Vocabulary) where
   maybe_none items = choice items (empty [])
 
   -- what stands between two marks
-  abbrev pub between : {p : Lookahead} {A : Type 0} → (opening closing : ℕ) → Grammar voc p A → Grammar voc (one (TheMark opening) ⨟ p ⨟ one (TheMark closing) ⨟ nothing) A
+  abbrev pub between : {p : Lookahead} {A : Type 0} → (opening closing : ℕ) → Grammar voc p A
+      → Grammar voc (one (TheMark opening) ⨟ p ⨟ one (TheMark closing) ⨟ nothing) A
   between opening closing inner = sequence (mark opening) (λ _. sequence inner (λ a. sequence (mark closing) (λ _. empty a)))

@@ -1,4 +1,4 @@
--- A worked example: lists of numbers in brackets, one in the other to any depth, with three numbers at most; and some texts, what they denote, and where others stop.
+-- A worked example: lists of numbers in brackets, one in the other to any depth, with three numbers at most; and some of its texts.
 use Rattle.std.specs.Prelude.{◌≡◌, refl, ℕ, suc, ℤ, pos, List, [], ◌∷◌, ◌++◌, Result, Ok, Err, nat_lt, if◌then◌else◌}
 use Rattle.nir_lex.specs.declared.token.TokenKind.TheVariants as kind
 use Rattle.grammar.specs.Terminals.{Terminal, TheMark, ANumber}
