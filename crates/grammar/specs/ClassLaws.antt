@@ -1,12 +1,12 @@
 -- Laws of classes of terminals: what the computed tests on classes say of the terminals in them.
 use Rattle.std.specs.Prelude.{◌≡◌, refl, ℕ, Bool, true, false, not, ◌||◌, ◌==◌, List, [], ◌∷◌, ◌++◌, length}
 use Rattle.std.specs.Str.{bytes_eq}
-use Rattle.std.proofs.Common.{◌≤◌, ⊎_elim, sym, ◌∙◌, subst, eqb-true, arith}
+use Rattle.std.proofs.Common.{◌≤◌, ⊎_elim, sym, ap, ◌∙◌, subst, eqb-true, arith}
 use Rattle.std.proofs.lemmas.Slice.Eq.{bytes_eq-Decides}
 use Rattle.std.proofs.lemmas.Bool.{and_parts, both_ways, not-true, or_cases, or_left, or_parts, or_right}
 use Rattle.nir_lex.specs.declared.token.TokenKind.{TokenKind}
 use Rattle.nir_lex.specs.declared.token.TokenKind.TheVariants.{Word, Number, Name, Quoted, Punct, End}
-use Rattle.grammar.specs.Terminals.{Terminal, Class, TheWord, WordBut, TheMark, ANumber, AName, AQuoted, TheEnd, is_among, kind_has, has, apart, included, holds, starts, apart_from, all_apart, included_in, all_included}
+use Rattle.grammar.specs.Terminals.{Terminal, Class, TheWord, WordBut, TheMark, ANumber, AName, AQuoted, TheEnd, is_among, all_among, kind_has, has, apart, included, holds, starts, apart_from, all_apart, included_in, all_included}
 use Rattle.grammar.specs.Lookahead.{if_so}
 use Rattle.grammar.specs.ChoiceLaws.{refuted}
 
@@ -70,9 +70,23 @@ starts_apart cs ds (t ∷ ts) e k = refuted (holds cs t) (λ h. holds_apart cs d
 
 -- ---- each terminal of a class that is included is in the other
 
+among_others : (text : List ℕ) (words others : List (List ℕ)) → all_among words others ≡ true → is_among text words ≡ true → is_among text others ≡ true
+among_others text [] others e h = absurd cc
+among_others text (word ∷ words) others e h =
+    let parts = and_parts (is_among word others) (all_among words others) e in
+    ⊎_elim
+    (λ this. subst (λ w. is_among w others ≡ true) (sym (bytes_same text word this)) parts.0)
+    (λ that. among_others text words others parts.1 that)
+    (or_cases (bytes_eq text word) (is_among text words) h)
+
+excluded_still : (text : List ℕ) (words others : List (List ℕ)) → all_among others words ≡ true → not (is_among text words) ≡ true → not (is_among text others) ≡ true
+excluded_still text words others e h =
+    ap not (refuted (is_among text others) (λ still. both_ways (is_among text words) (not-true (is_among text words) h) (among_others text others words e still)))
+
 kinds_included : (c d : Class) (kind : TokenKind) (text : List ℕ) → included c d ≡ true → kind_has c kind text ≡ true → kind_has d kind text ≡ true
 kinds_included (TheWord word) (TheWord other) Word text e h = same_bytes text other (bytes_same text word h ∙ bytes_same word other e)
 kinds_included (TheWord word) (WordBut words) Word text e h = subst (λ w. not (is_among w words) ≡ true) (sym (bytes_same text word h)) e
+kinds_included (WordBut words) (WordBut others) Word text e h = excluded_still text words others e h
 kinds_included (TheMark mark) (TheMark other) (Punct byte) text e h = subst (λ m. (m == other) ≡ true) (sym (eqb-true byte mark h)) e
 kinds_included ANumber ANumber kind text e h = h
 kinds_included AName AName kind text e h = h

@@ -24,6 +24,11 @@ abbrev pub is_among : List ℕ → List (List ℕ) → Bool
 is_among word [] = false
 is_among word (other ∷ others) = bytes_eq word other || is_among word others
 
+-- whether each of the first is one of the second
+abbrev pub all_among : List (List ℕ) → List (List ℕ) → Bool
+all_among [] others = true
+all_among (word ∷ words) others = is_among word others && all_among words others
+
 -- whether what a token is and its bytes are in the class
 abbrev pub kind_has : Class → TokenKind → List ℕ → Bool
 kind_has (TheWord word) Word text = bytes_eq text word
@@ -55,6 +60,7 @@ apart _ _ = true
 abbrev pub included : Class → Class → Bool
 included (TheWord word) (TheWord other) = bytes_eq word other
 included (TheWord word) (WordBut words) = not (is_among word words)
+included (WordBut words) (WordBut others) = all_among others words
 included (TheMark mark) (TheMark other) = mark == other
 included ANumber ANumber = true
 included AName AName = true
