@@ -1,5 +1,6 @@
 pub mod Annotated
 pub mod Files
+pub mod FormedLaws
 pub mod Formula
 pub mod Laws
 pub mod RuleFiles

@@ -9,7 +9,7 @@ use Rattle.grammar.specs.Spelling.{IsTextOfAnyDepth}
 use Rattle.grammar.specs.Words.{◌>>=◌, ◌>>◌, ◌or◌, bytes, word, mark, end, number_of, number_as, each_behind_comma, each_behind_comma_then_maybe_one, separated, listed, maybe_none, between}
 use Rattle.rule_spelling.specs.Files.{Binding, Step, Apply, Calc, LogStep, Proof, Cases, Derive, Logged, Item, AWeight, ALine, Fault, Expected}
 use Rattle.rule_spelling.specs.Formula.{Formula, Always}
-use Rattle.rule_spelling.specs.Tokens.{State, none_read, Place, Search, Replace, Evidence, Head, op_taken, closed, var_taken, rule_begun, side_begun, rule_ended, formula_taken, evidence_begun, index_of, literal_of, weighed_taken, weight_taken}
+use Rattle.rule_spelling.specs.Tokens.{State, none_read, Place, Search, Replace, Evidence, Head, op_taken, closed, var_taken, rule_begun, side_begun, rule_ended, formula_taken, number_taken, evidence_begun, index_of, literal_of, weighed_taken, weight_taken}
 
 abbrev pub truths : List (List ℕ)
 truths = codes "True" ∷ codes "False" ∷ []
@@ -46,7 +46,7 @@ expr place =
     app place
     or terminal (WordBut truths) (var_taken place)
     or terminal AQuoted (var_taken place)
-    or terminal ANumber (λ x first. Ok (LitThen (number_of first.kind) false Nil, x))
+    or terminal ANumber number_taken
     or terminal (TheWord (codes "True")) (λ x first. Ok (LitThen (pos 1) true Nil, x))
     or terminal (TheWord (codes "False")) (λ x first. Ok (LitThen (pos 0) true Nil, x))
 

@@ -8,8 +8,8 @@ use Rattle.nir_ops.specs.Lookup.{op_named}
 use Rattle.nir_ops.specs.Opcodes.{op_info}
 use Rattle.rule_term.specs.declared.cond.Cond.{Cond}
 use Rattle.rule_term.specs.declared.cond.Cond.TheVariants.{PosPow2, NegPow2, MultipleOf4, UpperHalfZero, LowerHalfZero, NotConst, UsedOnce}
-use Rattle.rule_term.specs.Formed.{is_mov, may_stand}
-use Rattle.rule_term.specs.Terms.{Terms, Nil, VarThen, AppThen}
+use Rattle.rule_term.specs.Formed.{is_mov, literal_formed, may_stand}
+use Rattle.rule_term.specs.Terms.{Terms, Nil, VarThen, LitThen, AppThen}
 use Rattle.rule_term.specs.Lists.{then as chained}
 use Rattle.rule_term.specs.Variants.{commutes}
 use Rattle.grammar.specs.Terminals.{Terminal, is_among}
@@ -85,14 +85,15 @@ named_op place x word (Some op) =
 unfoldable pub op_taken : Place → State → Terminal → Taken Head
 op_taken place x terminal = and_said (says terminal) (λ word. named_op place x word (op_named word.name))
 
+-- one term after another
+abbrev pub chain : List Terms → Terms
+chain [] = Nil
+chain (term ∷ others) = chained term (chain others)
+
 -- as many sources as the opcode takes
 unfoldable pub closed : Head → List Terms → State → Terminal → Taken Terms
 closed head args x terminal =
     if nat_eq (length args) (length (op_info head.op).inputs) then Ok (AppThen head.op head.size head.once (chain args) Nil, x) else Err Arity
-  where
-    chain : List Terms → Terms
-    chain [] = Nil
-    chain (term ∷ others) = chained term (chain others)
 
 -- ---- variables
 
@@ -125,6 +126,10 @@ named_var Evidence x word = if is_plain word then bound_var x word (place_of wor
 
 unfoldable pub var_taken : Place → State → Terminal → Taken Terms
 var_taken place x terminal = and_said (says terminal) (λ word. named_var place x word)
+
+-- a number from -2^63 to 2^64 - 1, as all of a text are
+unfoldable pub number_taken : State → Terminal → Taken Terms
+number_taken x terminal = if literal_formed (number_of terminal.kind) false then Ok (LitThen (number_of terminal.kind) false Nil, x) else Err Expected
 
 -- ---- rules
 

@@ -16,7 +16,7 @@ use Rattle.rule_spelling.specs.Files.{Item, ARule, ALine, AWeight, Apply, Calc, 
 use Rattle.rule_spelling.specs.Formula.{Always, Has, Not, Both, Either, formula_of}
 use Rattle.rule_spelling.specs.RuleFiles.{read_file}
 use Rattle.rule_spelling.specs.Text.{Lex, At, read_text}
-use Rattle.rule_spelling.specs.Tokens.{op_taken, closed, var_taken, rule_begun, side_begun, rule_ended, formula_taken, evidence_begun, weighed_taken, weight_taken}
+use Rattle.rule_spelling.specs.Tokens.{op_taken, closed, var_taken, rule_begun, side_begun, rule_ended, formula_taken, number_taken, evidence_begun, weighed_taken, weight_taken}
 
 -- ---- what texts say
 
@@ -55,7 +55,7 @@ said : map read_text (
     ∷ Ok (neg_a ∷ ALine (record { typing = None; proof = Cases }) ∷ [])
     ∷ Ok (neg_a ∷ ALine (record { typing = Some 3; proof = two_steps }) ∷ ALine (record { typing = None; proof = one_log_step }) ∷ [])
     ∷ []
-unfolding read_text read_file read_tokens piece_at is_blank starts_word is_in_word is_quote is_inside_quotes quoted is_punctuation number_piece limited
+unfolding number_taken read_text read_file read_tokens piece_at is_blank starts_word is_in_word is_quote is_inside_quotes quoted is_punctuation number_piece limited
     decimal hexadecimal negative unsigned name_piece op_taken closed var_taken rule_begun side_begun rule_ended formula_taken evidence_begun weighed_taken
     weight_taken says size_written cond_written name_and_rest quoted_annotated is_word may_stand all_ops op_named formula_of name_of row_of op_info shape_of
 said = refl
@@ -95,7 +95,7 @@ stopped : map read_text (
     ∷ Err (At BadWeight 13)
     ∷ Err (At BadWeight 23)
     ∷ []
-unfolding read_text read_file read_tokens piece_at is_blank starts_word is_in_word is_quote is_inside_quotes quoted is_punctuation number_piece limited
+unfolding number_taken read_text read_file read_tokens piece_at is_blank starts_word is_in_word is_quote is_inside_quotes quoted is_punctuation number_piece limited
     decimal hexadecimal negative unsigned name_piece op_taken closed var_taken rule_begun side_begun rule_ended formula_taken evidence_begun weighed_taken
     weight_taken says size_written cond_written name_and_rest quoted_annotated is_word may_stand all_ops op_named formula_of name_of row_of op_info shape_of
 stopped = refl
