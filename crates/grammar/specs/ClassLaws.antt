@@ -79,9 +79,11 @@ among_others text (word ∷ words) others e h =
     (λ that. among_others text words others parts.1 that)
     (or_cases (bytes_eq text word) (is_among text words) h)
 
-excluded_still : (text : List ℕ) (words others : List (List ℕ)) → all_among others words ≡ true → not (is_among text words) ≡ true → not (is_among text others) ≡ true
+excluded_still : (text : List ℕ) (words others : List (List ℕ)) → all_among others words ≡ true → not (is_among text words) ≡ true
+    → not (is_among text others) ≡ true
 excluded_still text words others e h =
-    ap not (refuted (is_among text others) (λ still. both_ways (is_among text words) (not-true (is_among text words) h) (among_others text others words e still)))
+    let never = not-true (is_among text words) h in
+    ap not (refuted (is_among text others) (λ still. both_ways (is_among text words) never (among_others text others words e still)))
 
 kinds_included : (c d : Class) (kind : TokenKind) (text : List ℕ) → included c d ≡ true → kind_has c kind text ≡ true → kind_has d kind text ≡ true
 kinds_included (TheWord word) (TheWord other) Word text e h = same_bytes text other (bytes_same text word h ∙ bytes_same word other e)

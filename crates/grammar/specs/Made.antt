@@ -1,4 +1,4 @@
--- What a grammar tells of the values that its texts denote, whatever their terminals: of which parts they are made, from one state to another (attribute evaluation).
+-- What a grammar tells of the values that its texts denote, whatever their terminals: of which parts they are made, from state to state.
 use Rattle.std.specs.Prelude.{◌≡◌, true, List, [], ◌∷◌, Option, Some, None, Ok, ◌⊎◌}
 use Rattle.grammar.specs.Terminals.{Terminal, has}
 use Rattle.grammar.specs.Lookahead.{Lookahead}

@@ -3,11 +3,12 @@ use Rattle.std.specs.Prelude.{◌≡◌, refl, ℕ, suc, ◌+◌, ◌<◌, ◌�
 use Rattle.std.specs.List.{AllByRecursion, list_all, flat_map}
 use Rattle.std.specs.Option.{option_map}
 use Rattle.std.specs.Str.{bytes_eq}
-use Rattle.std.proofs.Common.{sym, ap, ◌∙◌, subst, arith, ◌⊎◌, inl, inr, ⊎_elim}
+use Rattle.std.proofs.Common.{sym, ap, ◌∙◌, subst, arith, inl, inr, ⊎_elim}
 use Rattle.std.proofs.lemmas.Bool.{and_parts, and_from, eqb-true, eq-eqb, le-leb, ltb-true, lt-ltb}
 use Rattle.std.proofs.lemmas.Grind.{flat_map-append}
 use Rattle.std.proofs.lemmas.List.{append-nil, length-append}
 use Rattle.std.proofs.lemmas.List.Folds.{list_all-append}
+use Rattle.list_laws.specs.AllLaws.{all_each}
 use Rattle.list_laws.specs.BoolLaws.{chosen}
 use Rattle.nir_ops.specs.declared.op.Op.{Op}
 use Rattle.nir_ops.specs.declared.width.Width.{Width}
@@ -15,21 +16,23 @@ use Rattle.nir_ops.specs.Lookup.{op_named}
 use Rattle.nir_ops.specs.Opcodes.{op_info}
 use Rattle.rule_term.specs.declared.cond.Cond.{Cond}
 use Rattle.rule_term.specs.Formed.{is_application, literal_formed, may_stand, numbered, replace_piece_formed, search_piece_formed}
-use Rattle.rule_term.specs.FormedTest.{replace_formed, search_formed, sides_formed}
+use Rattle.rule_term.specs.FormedTest.{FormedIsTested, replace_formed, search_formed, sides_formed}
 use Rattle.rule_term.specs.Lists.{then as chained}
-use Rattle.rule_term.specs.Pieces.{Piece, VarPiece, LitPiece, AppPiece, pieces, terms_count, var_of, op_of, vars_of, ops_of}
+use Rattle.rule_term.specs.Pieces.{Piece, pieces, terms_count, var_of, op_of, vars_of, ops_of}
 use Rattle.rule_term.specs.Splits.{pieces-then, terms_count-then}
-use Rattle.rule_term.specs.Terms.{Terms, Nil, VarThen, LitThen, AppThen}
-use Rattle.grammar.specs.Terminals.{Terminal, TheMark}
+use Rattle.rule_term.specs.Terms.{Terms, Nil, LitThen, AppThen}
+use Rattle.grammar.specs.Terminals.{Terminal}
 use Rattle.grammar.specs.Grammar.{named}
-use Rattle.grammar.specs.Made.{Fact, Made, MadeOfEach}
+use Rattle.grammar.specs.Made.{Fact, Made}
 use Rattle.grammar.specs.ChoiceLaws.{cond_false, cond_true, refuted}
 use Rattle.grammar.specs.MadeLaws.{text_made}
 use Rattle.grammar.specs.Words.{each_behind_comma_then_maybe_one, listed, maybe_none, number_of}
 use Rattle.rule_spelling.specs.Annotated.{Annotated, says, unquoted}
 use Rattle.rule_spelling.specs.Files.{Fault, Item, AWeight, ARule, ALine}
 use Rattle.rule_spelling.specs.Formula.{Formula, formula_of}
+use Rattle.rule_spelling.specs.Laws.{IsFormedItem, RulesAreFormed}
 use Rattle.rule_spelling.specs.RuleFiles.{IsFile, app, file, item, maybe_comma, options, productions, rule, rule_files}
+use Rattle.rule_spelling.specs.Text.{terminals_of}
 use Rattle.rule_spelling.specs.Tokens.{State, none_read, Place, Search, Replace, Evidence, Taken, formula_taken, or_bad_option, rule_begun, rule_ended, side_begun, variants_of, Head, and_said, bound_var, chain, closed, counted_op, is_once, is_plain, may_ask, named_op, named_var, number_taken, numbered_var, op_taken, place_of, var_taken, variable}
 
 -- ---- numbers in order
@@ -61,7 +64,8 @@ vars_of-then a b = ap (flat_map var_of) (pieces-then a b) ∙ flat_map-append va
 ops_of-then : (a b : Terms) → ops_of (chained a b) ≡ ops_of a ++ ops_of b
 ops_of-then a b = ap (flat_map op_of) (pieces-then a b) ∙ flat_map-append op_of (pieces a) (pieces b)
 
-all_pieces : (test : Piece → Bool) (a b : Terms) → list_all test (pieces a) ≡ true → list_all test (pieces b) ≡ true → list_all test (pieces (chained a b)) ≡ true
+all_pieces : (test : Piece → Bool) (a b : Terms) → list_all test (pieces a) ≡ true → list_all test (pieces b) ≡ true
+    → list_all test (pieces (chained a b)) ≡ true
 all_pieces test a b h k =
     ap (list_all test) (pieces-then a b) ∙ list_all-append test (pieces a) (pieces b) ∙ and_from (list_all test (pieces a)) (list_all test (pieces b)) h k
 
@@ -135,9 +139,11 @@ module _ (place : Place) (Kept : State → Terms → State → Type 0) (none : (
   sources_keep x (term ∷ others) y (w, (mark, z, (t, is, taken), inl (first, v, made, is_first)), rest) =
       let kept = each z first v made in
       let left = sources_keep w others y rest in
-      let moved : Kept x term w = subst (λ x. Kept x term w) (sym (same_state x z taken)) (subst (Kept z term) is_first.1 (subst (λ term. Kept z term v) (same_term first term is_first.0) kept.1)) in
+      let moved : Kept x term w = subst (λ x. Kept x term w) (sym (same_state x z taken))
+          (subst (Kept z term) is_first.1 (subst (λ term. Kept z term v) (same_term first term is_first.0) kept.1)) in
       let one = ap terms_count (sym (same_term first term is_first.0)) in
-      (terms_count-then term (chain others) ∙ (let alone = kept.0 in let count = left.0 in omega (arith, one, alone, count)), both x w y term (chain others) moved left.1)
+      (terms_count-then term (chain others) ∙ (let alone = kept.0 in let count = left.0 in omega (arith, one, alone, count)), both x w y term
+          (chain others) moved left.1)
   sources_keep x (term ∷ others) y (w, (mark, z, (t, is, taken), inr is_last), rest) = absurd (let never = is_last.0 in cc)
 
 -- ---- opcodes over sources
@@ -166,7 +172,8 @@ puts_app : (x y z : State) (op : Op) (size : Option Width) (args : Terms) → x.
 puts_app x y z op size args same next few may counts puts =
     record {
       formed =
-          and_from (may_stand op && nat_eq (terms_count args) (length (op_info op).inputs) && true) (list_all (replace_piece_formed (length x.names)) (pieces args ++ []))
+          and_from (may_stand op && nat_eq (terms_count args) (length (op_info op).inputs) && true)
+              (list_all (replace_piece_formed (length x.names)) (pieces args ++ []))
           (and_from (may_stand op && nat_eq (terms_count args) (length (op_info op).inputs)) true
           (and_from (may_stand op) (nat_eq (terms_count args) (length (op_info op).inputs)) may counts) refl)
           (ap (list_all (replace_piece_formed (length x.names))) (append-nil (pieces args))
@@ -201,9 +208,11 @@ record IsOp (x : State) (p : Head × State) : Type 0 where
 abbrev op_behind : State → Head → Head × State
 op_behind x head = (head, record x { ops = suc x.ops })
 
-counted_is : (x : State) (head : Head) (p : Head × State) → may_stand head.op ≡ true → nat_lt x.ops 16 ≡ true → took (op_behind x head) ≡ took p → IsOp x p × (p.0.once ≡ head.once)
+counted_is : (x : State) (head : Head) (p : Head × State) → may_stand head.op ≡ true → nat_lt x.ops 16 ≡ true → took (op_behind x head) ≡ took p
+    → IsOp x p × (p.0.once ≡ head.once)
 counted_is x head p may few e =
-    subst (λ p. IsOp x p × (p.0.once ≡ head.once)) (took_is (op_behind x head) p e) (record { may = may; names = refl; ops = refl; few = ltb-true x.ops 16 few }, refl)
+    subst (λ p. IsOp x p × (p.0.once ≡ head.once)) (took_is (op_behind x head) p e)
+        (record { may = may; names = refl; ops = refl; few = ltb-true x.ops 16 few }, refl)
 
 counted_seek : (x : State) (head : Head) (p : Head × State) → may_stand head.op ≡ true → counted_op Search x head ≡ Ok p → IsOp x p × (p.0.once ≡ head.once)
 counted_seek x head p may e =
@@ -326,8 +335,10 @@ seeks_new x word few =
     record {
       formed = refl;
       ordered =
-          cond_false (nat_lt (length x.names) (length x.names)) _ _ _ (refuted (nat_lt (length x.names) (length x.names)) (λ less. let l = ltb-true (length x.names) (length x.names) less in omega (arith, l)))
-          (and_from (nat_eq (length x.names) (length x.names)) (nat_eq (suc (length x.names)) (length (x.names ++ word.name ∷ []))) (eq-eqb (length x.names) (length x.names) refl)
+          cond_false (nat_lt (length x.names) (length x.names)) _ _ _
+              (refuted (nat_lt (length x.names) (length x.names)) (λ less. let l = ltb-true (length x.names) (length x.names) less in omega (arith, l)))
+          (and_from (nat_eq (length x.names) (length x.names)) (nat_eq (suc (length x.names)) (length (x.names ++ word.name ∷ [])))
+              (eq-eqb (length x.names) (length x.names) refl)
           (eq-eqb (suc (length x.names)) (length (x.names ++ word.name ∷ [])) (omega (arith, longer))));
       counted = omega arith;
       few_names = λ l. let less = ltb-true (length x.names) 16 few in omega (arith, longer, less);
@@ -337,10 +348,12 @@ seeks_new x word few =
 var_numbered : (x : State) (word : Annotated) (o : Option ℕ) (p : Terms × State) → place_of word.name x.names ≡ o → numbered_var x word o ≡ Ok p
     → (terms_count p.0 ≡ 1) × Seeks x p.0 p.1
 var_numbered x word (Some var) p h e =
-    subst (λ p. (terms_count p.0 ≡ 1) × Seeks x p.0 p.1) (took_is (variable word var, x) p e) (refl, seeks_old x word var (place_below word.name x.names var h))
+    subst (λ p. (terms_count p.0 ≡ 1) × Seeks x p.0 p.1) (took_is (variable word var, x) p e)
+        (refl, seeks_old x word var (place_below word.name x.names var h))
 var_numbered x word None p h e =
     ⊎_elim
-    (λ few. subst (λ p. (terms_count p.0 ≡ 1) × Seeks x p.0 p.1) (took_is (variable word (length x.names), with_name x word.name) p few.1) (refl, seeks_new x word few.0))
+    (λ few. subst (λ p. (terms_count p.0 ≡ 1) × Seeks x p.0 p.1) (took_is (variable word (length x.names), with_name x word.name) p few.1)
+        (refl, seeks_new x word few.0))
     (λ many. absurd (let never = many.1 in cc))
     (chosen (nat_lt (length x.names) 16) _ _ _ e)
 
@@ -350,7 +363,8 @@ var_seek x t p e =
     let word = said_ok (says t) (λ word. named_var Search x word) p e in
     var_numbered x word.0 (place_of word.0.name x.names) p refl word.1
 
-plain_formed : (vars var : ℕ) (word : Annotated) → is_plain word ≡ true → var < vars → list_all (replace_piece_formed vars) (pieces (variable word var)) ≡ true
+plain_formed : (vars var : ℕ) (word : Annotated) → is_plain word ≡ true → var < vars
+    → list_all (replace_piece_formed vars) (pieces (variable word var)) ≡ true
 plain_formed vars var word plain below =
     let parts = and_parts (not word.constant) (is_none word.size && is_none word.cond) plain in
     let more = and_parts (is_none word.size) (is_none word.cond) parts.1 in
@@ -362,12 +376,14 @@ plain_formed vars var word plain below =
     more.1)
     refl
 
-var_bound : (x : State) (word : Annotated) (o : Option ℕ) (p : Terms × State) → is_plain word ≡ true → place_of word.name x.names ≡ o → bound_var x word o ≡ Ok p
+var_bound : (x : State) (word : Annotated) (o : Option ℕ) (p : Terms × State) → is_plain word ≡ true → place_of word.name x.names ≡ o
+    → bound_var x word o ≡ Ok p
     → (terms_count p.0 ≡ 1) × Puts x p.0 p.1
 var_bound x word None p plain h e = absurd cc
 var_bound x word (Some var) p plain h e =
     subst (λ p. (terms_count p.0 ≡ 1) × Puts x p.0 p.1) (took_is (variable word var, x) p e)
-    (refl, record { formed = plain_formed (length x.names) var word plain (place_below word.name x.names var h); same = refl; counted = omega arith; few_ops = λ l. l })
+    (refl, record { formed = plain_formed (length x.names) var word plain
+        (place_below word.name x.names var h); same = refl; counted = omega arith; few_ops = λ l. l })
 
 var_put : (x : State) (t : Terminal) (p : Terms × State) → var_taken Replace x t ≡ Ok p → (terms_count p.0 ≡ 1) × Puts x p.0 p.1
 unfolding var_taken
@@ -399,7 +415,8 @@ app_seeks x term y (mark, x1, (t, is, taken), (head, x2, op_made, (args, x3, arg
 
 app_puts : (x : State) (term : Terms) (y : State) → Made rule_files Known (app Replace) x term y → (terms_count term ≡ 1) × Puts x term y
 app_puts x term y (mark, x1, (t, is, taken), (head, x2, op_made, (args, x3, args_made, (t', is', closed_made)))) =
-    let found : IsOp x1 (head, x2) × (head.once ≡ false) = ⊎_elim (λ made. op_put x1 made.0 (head, x2) made.2) (λ made. op_put x1 made.0 (head, x2) made.2) op_made in
+    let found : IsOp x1 (head, x2) × (head.once ≡ false) = ⊎_elim (λ made. op_put x1 made.0 (head, x2) made.2)
+        (λ made. op_put x1 made.0 (head, x2) made.2) op_made in
     let op = found.0 in
     let kept = sources_keep Replace Puts puts_none puts_then Known (λ x term y known. known) x2 args x3 args_made in
     let end = closed_is head args x3 t' (term, y) closed_made in
@@ -434,10 +451,10 @@ terms_known Evidence x term y made = tt
 
 -- ---- rules
 
-abbrev pub IsFormedItem : Item → Type 0
-IsFormedItem (AWeight op weight) = Unit {0}
-IsFormedItem (ARule rule) = sides_formed rule.vars rule.search rule.replace ≡ true
-IsFormedItem (ALine line) = Unit {0}
+abbrev PassesTest : Item → Type 0
+PassesTest (AWeight op weight) = Unit {0}
+PassesTest (ARule rule) = sides_formed rule.vars rule.search rule.replace ≡ true
+PassesTest (ALine line) = Unit {0}
 
 formula_is : (x : State) (o : Option Formula) (p : Formula × State) → or_bad_option x o ≡ Ok p → x ≡ p.1
 formula_is x None p e = absurd cc
@@ -470,11 +487,11 @@ unfolding side_begun
 side_is x t p e = subst (λ (p : (Unit {0}) × State). (x.names ≡ p.1.names) × (p.1.ops ≡ 0)) (took_is (tt, record x { ops = 0 }) p e) (refl, refl)
 
 ended_is : (search replace : Terms) (formula : Formula) (x : State) (t : Terminal) (p : Item × State) → rule_ended search replace formula x t ≡ Ok p
-    → sides_formed (length x.names) search replace ≡ true → IsFormedItem p.0
+    → sides_formed (length x.names) search replace ≡ true → PassesTest p.0
 unfolding rule_ended
 ended_is search replace formula x t p e formed =
     ⊎_elim
-    (λ few. subst (λ (p : Item × State). IsFormedItem p.0) (took_is _ p few.1) formed)
+    (λ few. subst (λ (p : Item × State). PassesTest p.0) (took_is _ p few.1) formed)
     (λ many. absurd (let never = many.1 in cc))
     (chosen (nat_le (x.variants + variants_of search) 65536) _ _ _ e)
 
@@ -493,7 +510,8 @@ sides_are a b c d search replace none no_ops sought same no_more put =
     let search_count = seeks.counted in
     let replace_count = puts.counted in
     let ordered : numbered 0 (length d.names) (vars_of search) ≡ true =
-    subst (λ n. numbered n (length d.names) (vars_of search) ≡ true) none (subst (λ n. numbered (length a.names) n (vars_of search) ≡ true) names seeks.ordered) in
+    subst (λ n. numbered n (length d.names) (vars_of search) ≡ true) none
+        (subst (λ n. numbered (length a.names) n (vars_of search) ≡ true) names seeks.ordered) in
     let search_ok : search_formed (length d.names) search ≡ true =
     and_from (list_all search_piece_formed (pieces search) && numbered 0 (length d.names) (vars_of search)) (nat_le (length (ops_of search)) 16)
     (and_from (list_all search_piece_formed (pieces search)) (numbered 0 (length d.names) (vars_of search)) seeks.formed ordered)
@@ -502,9 +520,11 @@ sides_are a b c d search replace none no_ops sought same no_more put =
     and_from (list_all (replace_piece_formed (length d.names)) (pieces replace)) (nat_le (length (ops_of replace)) 16)
     (subst (λ n. list_all (replace_piece_formed n) (pieces replace) ≡ true) there puts.formed)
     (le-leb (length (ops_of replace)) 16 (omega (arith, few_replace, replace_count, no_more))) in
-    and_from (is_application search && nat_eq (terms_count search) 1 && nat_eq (terms_count replace) 1 && nat_le (length d.names) 16 && search_formed (length d.names) search)
-        (replace_formed (length d.names) replace)
-    (and_from (is_application search && nat_eq (terms_count search) 1 && nat_eq (terms_count replace) 1 && nat_le (length d.names) 16) (search_formed (length d.names) search)
+    and_from (is_application search && nat_eq (terms_count search) 1 && nat_eq (terms_count replace) 1 && nat_le (length d.names) 16 && search_formed
+        (length d.names) search)
+    (replace_formed (length d.names) replace)
+    (and_from (is_application search && nat_eq (terms_count search) 1 && nat_eq (terms_count replace) 1 && nat_le (length d.names) 16)
+        (search_formed (length d.names) search)
     (and_from (is_application search && nat_eq (terms_count search) 1 && nat_eq (terms_count replace) 1) (nat_le (length d.names) 16)
     (and_from (is_application search && nat_eq (terms_count search) 1) (nat_eq (terms_count replace) 1)
     (and_from (is_application search) (nat_eq (terms_count search) 1) sought.0 (eq-eqb (terms_count search) 1 sought.1))
@@ -513,18 +533,19 @@ sides_are a b c d search replace none no_ops sought same no_more put =
     search_ok)
     replace_ok
 
-rule_formed : (x : State) (item : Item) (y : State) → Made rule_files Known rule x item y → IsFormedItem item
-rule_formed x item y (mark, x1, (t, is, begun), (search, x2, sought, (comma, x3, (t', is', side), (replace, x4, put, (formula, x5, options_made, (t'', is'', ended)))))) =
+rule_formed : (x : State) (item : Item) (y : State) → Made rule_files Known rule x item y → PassesTest item
+rule_formed x item y (mark, x1, (t, is, begun),
+    (search, x2, sought, (comma, x3, (t', is', side), (replace, x4, put, (formula, x5, options_made, (t'', is'', ended)))))) =
     let start = begun_is x t (mark, x1) begun in
     let other = side_is x2 t' (comma, x3) side in
     let formed = sides_are x1 x2 x3 x4 search replace start.0 start.1 (app_seeks x1 search x2 sought) other.0 other.1 put in
     ended_is search replace formula x5 t'' (item, y) ended
     (subst (λ (x : State). sides_formed (length x.names) search replace ≡ true) (options_keep x4 formula x5 options_made) formed)
 
-item_formed : (x : State) (a : Item) (y : State) → Made rule_files Known item x a y → IsFormedItem a
-item_formed x a y (inl (word, x1, word_made, (op, x2, op_made, (number, x3, number_made, end)))) = subst IsFormedItem end.0 tt
+item_formed : (x : State) (a : Item) (y : State) → Made rule_files Known item x a y → PassesTest a
+item_formed x a y (inl (word, x1, word_made, (op, x2, op_made, (number, x3, number_made, end)))) = subst PassesTest end.0 tt
 item_formed x a y (inr (inl made)) = rule_formed x a y made
-item_formed x a y (inr (inr (word, x1, word_made, (typing, x2, typing_made, (shown, x3, shown_made, end))))) = subst IsFormedItem end.0 tt
+item_formed x a y (inr (inr (word, x1, word_made, (typing, x2, typing_made, (shown, x3, shown_made, end))))) = subst PassesTest end.0 tt
 
 abbrev some_item : Item → Option Item
 some_item item = Some item
@@ -533,22 +554,32 @@ same_item : (a b : Item) → some_item a ≡ some_item b → a ≡ b
 same_item a b e = cc
 
 others_formed : (x : State) (items : List Item) (y : State) → Made rule_files Known (each_behind_comma_then_maybe_one rule_files item) x items y
-    → AllByRecursion IsFormedItem items
+    → AllByRecursion PassesTest items
 others_formed x [] y made = tt
 others_formed x (a ∷ others) y (w, (mark, z, mark_made, inl (first, v, made, is_first)), rest) =
-    (subst IsFormedItem (same_item first a is_first.0) (item_formed z first v made), others_formed w others y rest)
+    (subst PassesTest (same_item first a is_first.0) (item_formed z first v made), others_formed w others y rest)
 others_formed x (a ∷ others) y (w, (mark, z, mark_made, inr is_last), rest) = absurd (let never = is_last.0 in cc)
 
 listed_formed : (x : State) (items : List Item) (y : State) → Made rule_files Known (maybe_none rule_files (listed rule_files item)) x items y
-    → AllByRecursion IsFormedItem items
+    → AllByRecursion PassesTest items
 listed_formed x items y (inl (first, x1, first_made, (others, x2, others_made, end))) =
-    subst (AllByRecursion IsFormedItem) end.0 (item_formed x first x1 first_made, others_formed x1 others x2 others_made)
-listed_formed x items y (inr end) = subst (AllByRecursion IsFormedItem) end.0 tt
+    subst (AllByRecursion PassesTest) end.0 (item_formed x first x1 first_made, others_formed x1 others x2 others_made)
+listed_formed x items y (inr end) = subst (AllByRecursion PassesTest) end.0 tt
 
-pub file_formed : (items : List Item) (z : State) (ts : List Terminal) → IsFile items z ts → AllByRecursion IsFormedItem items
+pub file_formed : (items : List Item) (z : State) (ts : List Terminal) → IsFile items z ts → AllByRecursion PassesTest items
 unfolding IsFile
 file_formed items z ts is = go (text_made rule_files productions Known terms_known file is.0 none_read items z ts is.1)
   where
-    go : Made rule_files Known file none_read items z → AllByRecursion IsFormedItem items
+    go : Made rule_files Known file none_read items z → AllByRecursion PassesTest items
     go (all, x, (opening, x1, opening_made, (inner, x2, inner_made, (closing, x3, closing_made, whole))), (ending, x4, end_made, end)) =
-        subst (AllByRecursion IsFormedItem) (whole.0 ∙ end.0) (listed_formed x1 inner x2 inner_made)
+        subst (AllByRecursion PassesTest) (whole.0 ∙ end.0) (listed_formed x1 inner x2 inner_made)
+
+item_is_formed : FormedIsTested → (item : Item) → PassesTest item → IsFormedItem item
+item_is_formed tested (AWeight op weight) passes = tt
+item_is_formed tested (ARule rule) passes =
+    λ when. (tested (record { number = rule.number; search = rule.search; replace = rule.replace; when = when; vars = rule.vars })).0 passes
+item_is_formed tested (ALine line) passes = tt
+
+pub rules_are_formed : FormedIsTested → RulesAreFormed
+rules_are_formed tested text items says =
+    all_each PassesTest IsFormedItem (item_is_formed tested) items (file_formed items says.state (terminals_of text says.tokens) says.spelled)

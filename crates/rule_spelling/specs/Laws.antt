@@ -1,8 +1,11 @@
--- The laws of rule files: a text that is read says what was read, a text that says something is read so, and the first fault is the first.
+-- The laws of rule files: a text is read as what it says, the first fault is the first, and each rule is formed.
 use Rattle.std.specs.Prelude.{◌≡◌, ℕ, true, List, length, nat_le, Some, Ok, Err}
+use Rattle.std.specs.List.{AllByRecursion}
 use Rattle.grammar.specs.Spelling.{IsTextOfAnyDepth}
 use Rattle.grammar.specs.Terminals.{Terminal}
-use Rattle.rule_spelling.specs.Files.{Item, Fault}
+use Rattle.rule_term.specs.declared.when.When.{When}
+use Rattle.rule_term.specs.Formed.{IsFormed}
+use Rattle.rule_spelling.specs.Files.{Item, AWeight, ARule, ALine, Fault}
 use Rattle.rule_spelling.specs.Formula.{Formula, formulas, productions, disjunction, formula_of, terminals_from}
 use Rattle.rule_spelling.specs.Text.{At, Says, StandsAt, read_text}
 
@@ -14,6 +17,18 @@ SpelledIsRead = (text : List ℕ) (items : List Item) → Says text items → re
 
 abbrev pub FaultIsFirst : Type 0
 FaultIsFirst = (text : List ℕ) (fault : Fault) (place : ℕ) → read_text text ≡ Err (At fault place) → StandsAt text place
+
+-- ---- rules
+
+-- the rule of an item is formed, whatever its options
+abbrev pub IsFormedItem : Item → Type 0
+IsFormedItem (AWeight op weight) = Unit {0}
+IsFormedItem (ARule rule) =
+    (when : When) → IsFormed (record { number = rule.number; search = rule.search; replace = rule.replace; when = when; vars = rule.vars })
+IsFormedItem (ALine line) = Unit {0}
+
+abbrev pub RulesAreFormed : Type 0
+RulesAreFormed = (text : List ℕ) (items : List Item) → Says text items → AllByRecursion IsFormedItem items
 
 -- ---- formulas over options
 

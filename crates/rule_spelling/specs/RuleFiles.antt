@@ -1,12 +1,12 @@
 -- The grammar of rule files: rules as the tuples of Mesa's nir_opt_algebraic.py, with the evidence of this project's own.
-use Rattle.std.specs.Prelude.{ℕ, ℤ, pos, Bool, true, false, List, [], ◌∷◌, Option, Some, None, Result, Ok, codes, refl}
+use Rattle.std.specs.Prelude.{ℕ, ℤ, pos, Bool, true, false, List, [], ◌∷◌, Some, None, Result, Ok, codes, refl}
 use Rattle.rule_term.specs.Terms.{Terms, Nil, LitThen}
-use Rattle.grammar.specs.Terminals.{Terminal, Class, TheWord, WordBut, TheMark, ANumber, AQuoted, TheEnd}
+use Rattle.grammar.specs.Terminals.{Terminal, Class, TheWord, WordBut, TheMark, ANumber, AQuoted}
 use Rattle.grammar.specs.Lookahead.{Lookahead, one, star, begins, maybe_begins, nothing, ◌⨟◌, ◌∪◌}
 use Rattle.grammar.specs.Grammar.{Vocabulary, Grammar, empty, terminal, named, widened, Productions}
 use Rattle.grammar.specs.Reading.{Stop, read_deep}
 use Rattle.grammar.specs.Spelling.{IsTextOfAnyDepth}
-use Rattle.grammar.specs.Words.{◌>>=◌, ◌>>◌, ◌or◌, bytes, word, mark, end, number_of, number_as, each_behind_comma, each_behind_comma_then_maybe_one, separated, listed, maybe_none, between}
+use Rattle.grammar.specs.Words.{◌>>=◌, ◌>>◌, ◌or◌, bytes, word, mark, end, number_as, each_behind_comma, each_behind_comma_then_maybe_one, separated, listed, maybe_none, between}
 use Rattle.rule_spelling.specs.Files.{Binding, Step, Apply, Calc, LogStep, Proof, Cases, Derive, Logged, Item, AWeight, ALine, Fault, Expected}
 use Rattle.rule_spelling.specs.Formula.{Formula, Always}
 use Rattle.rule_spelling.specs.Tokens.{State, none_read, Place, Search, Replace, Evidence, Head, op_taken, closed, var_taken, rule_begun, side_begun, rule_ended, formula_taken, number_taken, evidence_begun, index_of, literal_of, weighed_taken, weight_taken}

@@ -1,6 +1,6 @@
 -- The laws of rule files and of their formulas, as Laws.antt states them.
-use Rattle.std.specs.Prelude.{◌≡◌, refl, ℕ, suc, Bool, true, false, List, [], ◌∷◌, ◌++◌, length, nat_le, Option, Some, None, Result, Ok, Err, cond}
-use Rattle.std.proofs.Common.{sym, ◌∙◌, ap, subst, inl, inr, ⊎_elim}
+use Rattle.std.specs.Prelude.{◌≡◌, refl, ℕ, suc, true, List, [], ◌∷◌, ◌++◌, length, nat_le, Option, Some, None, Result, Ok, Err, cond}
+use Rattle.std.proofs.Common.{sym, ◌∙◌, ap, ⊎_elim}
 use Rattle.list_laws.specs.BoolLaws.{chosen}
 use Rattle.nir_lex.specs.declared.fault.LexFault.{LexFault}
 use Rattle.nir_lex.specs.declared.token.Token.{Token}

@@ -15,7 +15,7 @@ use Rattle.rule_term.specs.Variants.{commutes}
 use Rattle.grammar.specs.Terminals.{Terminal, is_among}
 use Rattle.grammar.specs.Words.{number_of}
 use Rattle.rule_spelling.specs.Annotated.{Annotated, says, unquoted}
-use Rattle.rule_spelling.specs.Files.{Item, ARule, Rule, Fault, Expected, UnknownOp, Arity, Unbound, TooLarge, BadOption, Excluded, BadWeight}
+use Rattle.rule_spelling.specs.Files.{Item, ARule, Fault, Expected, UnknownOp, Arity, Unbound, TooLarge, BadOption, Excluded, BadWeight}
 use Rattle.rule_spelling.specs.Formula.{Formula, formula_of}
 
 -- What was read before: how many rules, and how many variants they have together; which opcodes were weighed, by their names; the variables of the last

@@ -1,5 +1,5 @@
 -- Worked examples of rule files: what texts say, and where others stop.
-use Rattle.std.specs.Prelude.{◌≡◌, refl, pos, negsuc, true, false, List, [], ◌∷◌, Some, None, Ok, Err, codes, map}
+use Rattle.std.specs.Prelude.{◌≡◌, refl, pos, negsuc, true, false, [], ◌∷◌, Some, None, Ok, Err, codes, map}
 use Rattle.nir_lex.specs.Classes.{starts_word, is_in_word, is_blank, is_quote, is_inside_quotes, is_punctuation, is_word}
 use Rattle.nir_lex.specs.Numbers.{limited}
 use Rattle.nir_lex.specs.Pieces.{number_piece, decimal, hexadecimal, negative, unsigned, quoted, name as name_piece, piece_at}
@@ -55,9 +55,9 @@ said : map read_text (
     ∷ Ok (neg_a ∷ ALine (record { typing = None; proof = Cases }) ∷ [])
     ∷ Ok (neg_a ∷ ALine (record { typing = Some 3; proof = two_steps }) ∷ ALine (record { typing = None; proof = one_log_step }) ∷ [])
     ∷ []
-unfolding number_taken read_text read_file read_tokens piece_at is_blank starts_word is_in_word is_quote is_inside_quotes quoted is_punctuation number_piece limited
+unfolding read_text read_file read_tokens piece_at is_blank starts_word is_in_word is_quote is_inside_quotes quoted is_punctuation number_piece limited
     decimal hexadecimal negative unsigned name_piece op_taken closed var_taken rule_begun side_begun rule_ended formula_taken evidence_begun weighed_taken
-    weight_taken says size_written cond_written name_and_rest quoted_annotated is_word may_stand all_ops op_named formula_of name_of row_of op_info shape_of
+    weight_taken number_taken says size_written cond_written name_and_rest quoted_annotated is_word may_stand all_ops op_named formula_of name_of row_of op_info shape_of
 said = refl
 
 a_formula : formula_of (codes "!options->x && (options->y || options->z) && options->w")
@@ -95,7 +95,7 @@ stopped : map read_text (
     ∷ Err (At BadWeight 13)
     ∷ Err (At BadWeight 23)
     ∷ []
-unfolding number_taken read_text read_file read_tokens piece_at is_blank starts_word is_in_word is_quote is_inside_quotes quoted is_punctuation number_piece limited
+unfolding read_text read_file read_tokens piece_at is_blank starts_word is_in_word is_quote is_inside_quotes quoted is_punctuation number_piece limited
     decimal hexadecimal negative unsigned name_piece op_taken closed var_taken rule_begun side_begun rule_ended formula_taken evidence_begun weighed_taken
-    weight_taken says size_written cond_written name_and_rest quoted_annotated is_word may_stand all_ops op_named formula_of name_of row_of op_info shape_of
+    weight_taken number_taken says size_written cond_written name_and_rest quoted_annotated is_word may_stand all_ops op_named formula_of name_of row_of op_info shape_of
 stopped = refl

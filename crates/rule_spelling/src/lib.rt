@@ -7,8 +7,11 @@ ghost use Rattle.rule_spelling.specs.Laws.{
   FormulaIsRead,
   FormulaIsSpelled,
   ReadIsSpelled,
+  RulesAreFormed,
   SpelledIsRead,
 };
+
+use rule_term::formed_is_tested;
 
 /// What is read of a text is what it says.
 pub fn read_is_spelled()
@@ -28,3 +31,11 @@ pub fn spelled_is_read()
 pub fn fault_is_first()
     ensures { FaultIsFirst }
 {}
+
+/// Each rule that a text says is formed: an opcode is sought, opcodes have their sources, variables are numbered in order, and
+/// the replacement has no other.
+pub fn rules_are_formed()
+    ensures { RulesAreFormed }
+{
+    formed_is_tested();
+}
