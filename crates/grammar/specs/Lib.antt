@@ -14,6 +14,7 @@ pub mod MadeLaws
 pub mod OneAheadLaws
 pub mod PlaceLaws
 pub mod Reading
+pub mod RespectsLaws
 pub mod SoundLaws
 pub mod Spelling
 pub mod Terminals
