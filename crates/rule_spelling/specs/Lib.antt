@@ -1,0 +1,10 @@
+pub mod Annotated
+pub mod Files
+pub mod FormedLaws
+pub mod Formula
+pub mod Laws
+pub mod RuleFiles
+pub mod Text
+pub mod TextLaws
+pub mod Tokens
+pub mod Worked
