@@ -1,0 +1,3 @@
+pub mod CommuteLemmas
+pub mod CopyLemmas
+pub mod SideLemmas
