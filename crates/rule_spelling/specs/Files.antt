@@ -1,5 +1,5 @@
 -- What a rule file says: rules, the evidence for each, and weights; and why a text says nothing.
-use Rattle.std.specs.Prelude.{ℕ, ℤ, Bool, Option, List, [], ◌∷◌}
+use Rattle.std.specs.Prelude.{◌≡◌, ℕ, suc, ℤ, Bool, Option, List, [], ◌∷◌}
 use Rattle.nir_ops.specs.declared.op.Op.{Op}
 use Rattle.rule_term.specs.Terms.{Terms}
 use Rattle.rule_spelling.specs.Formula.{Formula}
@@ -64,6 +64,11 @@ gathered (ALine line ∷ items) = (line ∷ (gathered items).0, (gathered items)
 
 abbrev pub entries_of : List Item → List Entry
 entries_of items = (gathered items).1
+
+-- the rules have the numbers from this one on
+abbrev pub AreNumbered : ℕ → List Entry → Type 0
+AreNumbered number [] = Unit {0}
+AreNumbered number (entry ∷ entries) = (entry.rule.number ≡ number) × AreNumbered (suc number) entries
 
 abbrev pub weights_of : List Item → List Weight
 weights_of [] = []

@@ -140,10 +140,12 @@ module _ (place : Place) (Kept : State → Terms → State → Type 0) (none : (
       let kept = each z first v made in
       let left = sources_keep w others y rest in
       let moved : Kept x term w = subst (λ x. Kept x term w) (sym (same_state x z taken))
-          (subst (Kept z term) is_first.1 (subst (λ term. Kept z term v) (same_term first term is_first.0) kept.1)) in
-      let one = ap terms_count (sym (same_term first term is_first.0)) in
-      (terms_count-then term (chain others) ∙ (let alone = kept.0 in let count = left.0 in omega (arith, one, alone, count)), both x w y term
-          (chain others) moved left.1)
+      (subst (Kept z term) is_first.1 (subst (λ term. Kept z term v) (same_term first term is_first.0) kept.1)) in
+      let one = ap terms_count (sym (same_term first term is_first.0)) in (
+        terms_count-then term (chain others) ∙ (let alone = kept.0 in let count = left.0 in omega (arith, one, alone, count)),
+        both x w y term
+            (chain others) moved left.1,
+      )
   sources_keep x (term ∷ others) y (w, (mark, z, (t, is, taken), inr is_last), rest) = absurd (let never = is_last.0 in cc)
 
 -- ---- opcodes over sources
@@ -173,7 +175,7 @@ puts_app x y z op size args same next few may counts puts =
     record {
       formed =
           and_from (may_stand op && nat_eq (terms_count args) (length (op_info op).inputs) && true)
-              (list_all (replace_piece_formed (length x.names)) (pieces args ++ []))
+          (list_all (replace_piece_formed (length x.names)) (pieces args ++ []))
           (and_from (may_stand op && nat_eq (terms_count args) (length (op_info op).inputs)) true
           (and_from (may_stand op) (nat_eq (terms_count args) (length (op_info op).inputs)) may counts) refl)
           (ap (list_all (replace_piece_formed (length x.names))) (append-nil (pieces args))
@@ -212,7 +214,7 @@ counted_is : (x : State) (head : Head) (p : Head × State) → may_stand head.op
     → IsOp x p × (p.0.once ≡ head.once)
 counted_is x head p may few e =
     subst (λ p. IsOp x p × (p.0.once ≡ head.once)) (took_is (op_behind x head) p e)
-        (record { may = may; names = refl; ops = refl; few = ltb-true x.ops 16 few }, refl)
+    (record { may = may; names = refl; ops = refl; few = ltb-true x.ops 16 few }, refl)
 
 counted_seek : (x : State) (head : Head) (p : Head × State) → may_stand head.op ≡ true → counted_op Search x head ≡ Ok p → IsOp x p × (p.0.once ≡ head.once)
 counted_seek x head p may e =
@@ -336,9 +338,9 @@ seeks_new x word few =
       formed = refl;
       ordered =
           cond_false (nat_lt (length x.names) (length x.names)) _ _ _
-              (refuted (nat_lt (length x.names) (length x.names)) (λ less. let l = ltb-true (length x.names) (length x.names) less in omega (arith, l)))
+          (refuted (nat_lt (length x.names) (length x.names)) (λ less. let l = ltb-true (length x.names) (length x.names) less in omega (arith, l)))
           (and_from (nat_eq (length x.names) (length x.names)) (nat_eq (suc (length x.names)) (length (x.names ++ word.name ∷ [])))
-              (eq-eqb (length x.names) (length x.names) refl)
+          (eq-eqb (length x.names) (length x.names) refl)
           (eq-eqb (suc (length x.names)) (length (x.names ++ word.name ∷ [])) (omega (arith, longer))));
       counted = omega arith;
       few_names = λ l. let less = ltb-true (length x.names) 16 few in omega (arith, longer, less);
@@ -349,11 +351,11 @@ var_numbered : (x : State) (word : Annotated) (o : Option ℕ) (p : Terms × Sta
     → (terms_count p.0 ≡ 1) × Seeks x p.0 p.1
 var_numbered x word (Some var) p h e =
     subst (λ p. (terms_count p.0 ≡ 1) × Seeks x p.0 p.1) (took_is (variable word var, x) p e)
-        (refl, seeks_old x word var (place_below word.name x.names var h))
+    (refl, seeks_old x word var (place_below word.name x.names var h))
 var_numbered x word None p h e =
     ⊎_elim
     (λ few. subst (λ p. (terms_count p.0 ≡ 1) × Seeks x p.0 p.1) (took_is (variable word (length x.names), with_name x word.name) p few.1)
-        (refl, seeks_new x word few.0))
+    (refl, seeks_new x word few.0))
     (λ many. absurd (let never = many.1 in cc))
     (chosen (nat_lt (length x.names) 16) _ _ _ e)
 
@@ -381,9 +383,16 @@ var_bound : (x : State) (word : Annotated) (o : Option ℕ) (p : Terms × State)
     → (terms_count p.0 ≡ 1) × Puts x p.0 p.1
 var_bound x word None p plain h e = absurd cc
 var_bound x word (Some var) p plain h e =
-    subst (λ p. (terms_count p.0 ≡ 1) × Puts x p.0 p.1) (took_is (variable word var, x) p e)
-    (refl, record { formed = plain_formed (length x.names) var word plain
-        (place_below word.name x.names var h); same = refl; counted = omega arith; few_ops = λ l. l })
+    subst (λ p. (terms_count p.0 ≡ 1) × Puts x p.0 p.1) (took_is (variable word var, x) p e) (
+      refl,
+      record {
+        formed = plain_formed (length x.names) var word plain
+            (place_below word.name x.names var h);
+        same = refl;
+        counted = omega arith;
+        few_ops = λ l. l;
+      },
+    )
 
 var_put : (x : State) (t : Terminal) (p : Terms × State) → var_taken Replace x t ≡ Ok p → (terms_count p.0 ≡ 1) × Puts x p.0 p.1
 unfolding var_taken
@@ -416,7 +425,7 @@ app_seeks x term y (mark, x1, (t, is, taken), (head, x2, op_made, (args, x3, arg
 app_puts : (x : State) (term : Terms) (y : State) → Made rule_files Known (app Replace) x term y → (terms_count term ≡ 1) × Puts x term y
 app_puts x term y (mark, x1, (t, is, taken), (head, x2, op_made, (args, x3, args_made, (t', is', closed_made)))) =
     let found : IsOp x1 (head, x2) × (head.once ≡ false) = ⊎_elim (λ made. op_put x1 made.0 (head, x2) made.2)
-        (λ made. op_put x1 made.0 (head, x2) made.2) op_made in
+    (λ made. op_put x1 made.0 (head, x2) made.2) op_made in
     let op = found.0 in
     let kept = sources_keep Replace Puts puts_none puts_then Known (λ x term y known. known) x2 args x3 args_made in
     let end = closed_is head args x3 t' (term, y) closed_made in
@@ -511,7 +520,7 @@ sides_are a b c d search replace none no_ops sought same no_more put =
     let replace_count = puts.counted in
     let ordered : numbered 0 (length d.names) (vars_of search) ≡ true =
     subst (λ n. numbered n (length d.names) (vars_of search) ≡ true) none
-        (subst (λ n. numbered (length a.names) n (vars_of search) ≡ true) names seeks.ordered) in
+    (subst (λ n. numbered (length a.names) n (vars_of search) ≡ true) names seeks.ordered) in
     let search_ok : search_formed (length d.names) search ≡ true =
     and_from (list_all search_piece_formed (pieces search) && numbered 0 (length d.names) (vars_of search)) (nat_le (length (ops_of search)) 16)
     (and_from (list_all search_piece_formed (pieces search)) (numbered 0 (length d.names) (vars_of search)) seeks.formed ordered)
@@ -521,10 +530,10 @@ sides_are a b c d search replace none no_ops sought same no_more put =
     (subst (λ n. list_all (replace_piece_formed n) (pieces replace) ≡ true) there puts.formed)
     (le-leb (length (ops_of replace)) 16 (omega (arith, few_replace, replace_count, no_more))) in
     and_from (is_application search && nat_eq (terms_count search) 1 && nat_eq (terms_count replace) 1 && nat_le (length d.names) 16 && search_formed
-        (length d.names) search)
+    (length d.names) search)
     (replace_formed (length d.names) replace)
     (and_from (is_application search && nat_eq (terms_count search) 1 && nat_eq (terms_count replace) 1 && nat_le (length d.names) 16)
-        (search_formed (length d.names) search)
+    (search_formed (length d.names) search)
     (and_from (is_application search && nat_eq (terms_count search) 1 && nat_eq (terms_count replace) 1) (nat_le (length d.names) 16)
     (and_from (is_application search && nat_eq (terms_count search) 1) (nat_eq (terms_count replace) 1)
     (and_from (is_application search) (nat_eq (terms_count search) 1) sought.0 (eq-eqb (terms_count search) 1 sought.1))
@@ -534,8 +543,12 @@ sides_are a b c d search replace none no_ops sought same no_more put =
     replace_ok
 
 rule_formed : (x : State) (item : Item) (y : State) → Made rule_files Known rule x item y → PassesTest item
-rule_formed x item y (mark, x1, (t, is, begun),
-    (search, x2, sought, (comma, x3, (t', is', side), (replace, x4, put, (formula, x5, options_made, (t'', is'', ended)))))) =
+rule_formed x item y (
+  mark,
+  x1,
+  (t, is, begun),
+  (search, x2, sought, (comma, x3, (t', is', side), (replace, x4, put, (formula, x5, options_made, (t'', is'', ended))))),
+) =
     let start = begun_is x t (mark, x1) begun in
     let other = side_is x2 t' (comma, x3) side in
     let formed = sides_are x1 x2 x3 x4 search replace start.0 start.1 (app_seeks x1 search x2 sought) other.0 other.1 put in

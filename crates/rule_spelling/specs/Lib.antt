@@ -3,6 +3,7 @@ pub mod Files
 pub mod FormedLaws
 pub mod Formula
 pub mod Laws
+pub mod NumberedLaws
 pub mod RuleFiles
 pub mod Text
 pub mod TextLaws
