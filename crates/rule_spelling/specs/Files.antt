@@ -51,7 +51,7 @@ pub record Entry : Type 0 where
   pub rule : Rule
   pub lines : List Line
 
-pub record Weight : Type 0 where
+pub record WeightLine : Type 0 where
   pub op : Op
   pub weight : ℕ
 
@@ -70,7 +70,7 @@ abbrev pub AreNumbered : ℕ → List Entry → Type 0
 AreNumbered number [] = Unit {0}
 AreNumbered number (entry ∷ entries) = (entry.rule.number ≡ number) × AreNumbered (suc number) entries
 
-abbrev pub weights_of : List Item → List Weight
+abbrev pub weights_of : List Item → List WeightLine
 weights_of [] = []
 weights_of (AWeight op weight ∷ items) = record { op = op; weight = weight } ∷ weights_of items
 weights_of (ARule rule ∷ items) = weights_of items
@@ -88,4 +88,4 @@ pub data Fault : Type 0 where
   TooLarge : Fault
   BadOption : Fault
   Excluded : Fault
-  BadWeight : Fault
+  Weight : Fault
