@@ -5,6 +5,7 @@ pub mod Formula
 pub mod Laws
 pub mod NumberedLaws
 pub mod RuleFiles
+pub mod SidesLaws
 pub mod Text
 pub mod TextLaws
 pub mod Tokens
