@@ -17,7 +17,8 @@ module _ (voc : Vocabulary) (Keeps : voc.state → voc.state → Type 0) where
   Respects (named n) = Unit {0}
   Respects (widened q sub g) = Respects g
 
-  module _ (self : (x : voc.state) → Keeps x x) (on : (x y z : voc.state) → Keeps x y → Keeps y z → Keeps x z) (Named : (n : voc.nonterminal) → Fact voc (voc.denoted n))
+  module _ (self : (x : voc.state) → Keeps x x) (on : (x y z : voc.state) → Keeps x y → Keeps y z → Keeps x z)
+      (Named : (n : voc.nonterminal) → Fact voc (voc.denoted n))
       (known : (n : voc.nonterminal) (x : voc.state) (a : voc.denoted n) (y : voc.state) → Named n x a y → Keeps x y) where
     each_keeps : {A : Type 0} (F : Fact voc (Option A)) → ((x : voc.state) (o : Option A) (y : voc.state) → F x o y → Keeps x y)
         → (x : voc.state) (all : List A) (y : voc.state) → MadeOfEach voc F x all y → Keeps x y
@@ -25,7 +26,8 @@ module _ (voc : Vocabulary) (Keeps : voc.state → voc.state → Type 0) where
     each_keeps F keeps x [] y (inr made) = keeps x None y made
     each_keeps F keeps x (a ∷ others) y made = on x made.0 y (keeps x (Some a) made.0 made.1) (each_keeps F keeps made.0 others y made.2)
 
-    pub made_keeps : {p : Lookahead} {A : Type 0} (g : Grammar voc p A) → Respects g → (x : voc.state) (a : A) (y : voc.state) → Made voc Named g x a y → Keeps x y
+    pub made_keeps : {p : Lookahead} {A : Type 0} (g : Grammar voc p A) → Respects g → (x : voc.state) (a : A) (y : voc.state) → Made voc Named g x a y
+        → Keeps x y
     made_keeps (empty b) r x a y made = subst (Keeps x) made.1 (self x)
     made_keeps (terminal class take) r x a y made = r x made.0 (a, y) made.2
     made_keeps (sequence g h) r x a y made = on x made.1 y (made_keeps g r.0 x made.0 made.1 made.2) (made_keeps (h made.0) (r.1 made.0) made.1 a y made.3)

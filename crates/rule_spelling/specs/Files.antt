@@ -1,5 +1,5 @@
 -- What a rule file says: rules, the evidence for each, and weights; and why a text says nothing.
-use Rattle.std.specs.Prelude.{ℕ, ℤ, Bool, Option, List, [], ◌∷◌}
+use Rattle.std.specs.Prelude.{◌≡◌, ℕ, suc, ℤ, Bool, Option, List, [], ◌∷◌}
 use Rattle.nir_ops.specs.declared.op.Op.{Op}
 use Rattle.rule_term.specs.Terms.{Terms}
 use Rattle.rule_spelling.specs.Formula.{Formula}
@@ -51,7 +51,7 @@ pub record Entry : Type 0 where
   pub rule : Rule
   pub lines : List Line
 
-pub record Weight : Type 0 where
+pub record WeightLine : Type 0 where
   pub op : Op
   pub weight : ℕ
 
@@ -65,7 +65,12 @@ gathered (ALine line ∷ items) = (line ∷ (gathered items).0, (gathered items)
 abbrev pub entries_of : List Item → List Entry
 entries_of items = (gathered items).1
 
-abbrev pub weights_of : List Item → List Weight
+-- the rules have the numbers from this one on
+abbrev pub AreNumbered : ℕ → List Entry → Type 0
+AreNumbered number [] = Unit {0}
+AreNumbered number (entry ∷ entries) = (entry.rule.number ≡ number) × AreNumbered (suc number) entries
+
+abbrev pub weights_of : List Item → List WeightLine
 weights_of [] = []
 weights_of (AWeight op weight ∷ items) = record { op = op; weight = weight } ∷ weights_of items
 weights_of (ARule rule ∷ items) = weights_of items
@@ -83,4 +88,4 @@ pub data Fault : Type 0 where
   TooLarge : Fault
   BadOption : Fault
   Excluded : Fault
-  BadWeight : Fault
+  Weight : Fault

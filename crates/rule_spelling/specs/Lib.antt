@@ -3,7 +3,9 @@ pub mod Files
 pub mod FormedLaws
 pub mod Formula
 pub mod Laws
+pub mod NumberedLaws
 pub mod RuleFiles
+pub mod SidesLaws
 pub mod Text
 pub mod TextLaws
 pub mod Tokens

@@ -15,7 +15,7 @@ use Rattle.rule_term.specs.Variants.{commutes}
 use Rattle.grammar.specs.Terminals.{Terminal, is_among}
 use Rattle.grammar.specs.Words.{number_of}
 use Rattle.rule_spelling.specs.Annotated.{Annotated, says, unquoted}
-use Rattle.rule_spelling.specs.Files.{Item, ARule, Fault, Expected, UnknownOp, Arity, Unbound, TooLarge, BadOption, Excluded, BadWeight}
+use Rattle.rule_spelling.specs.Files.{Item, ARule, Fault, Expected, UnknownOp, Arity, Unbound, TooLarge, BadOption, Excluded, Weight}
 use Rattle.rule_spelling.specs.Formula.{Formula, formula_of}
 
 -- What was read before: how many rules, and how many variants they have together; which opcodes were weighed, by their names; the variables of the last
@@ -182,15 +182,15 @@ literal_of (negsuc n) = if nat_lt n (2 ^ 31) then Some (negsuc n) else None
 -- an opcode is weighed once, and mov is not
 abbrev pub weighed_op : State → List ℕ → Option Op → Taken Op
 weighed_op x name None = Err UnknownOp
-weighed_op x name (Some op) = if is_mov op || is_among name x.weighed then Err BadWeight else Ok (op, record x { weighed = name ∷ x.weighed })
+weighed_op x name (Some op) = if is_mov op || is_among name x.weighed then Err Weight else Ok (op, record x { weighed = name ∷ x.weighed })
 
 unfoldable pub weighed_taken : State → Terminal → Taken Op
 weighed_taken x terminal = weighed_op x terminal.text (op_named terminal.text)
 
 -- from 0 to 60
 abbrev pub weight_of : State → ℤ → Taken ℕ
-weight_of x (pos n) = if nat_le n 60 then Ok (n, x) else Err BadWeight
-weight_of x (negsuc n) = Err BadWeight
+weight_of x (pos n) = if nat_le n 60 then Ok (n, x) else Err Weight
+weight_of x (negsuc n) = Err Weight
 
 unfoldable pub weight_taken : State → Terminal → Taken ℕ
 weight_taken x terminal = weight_of x (number_of terminal.kind)

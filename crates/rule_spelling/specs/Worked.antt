@@ -12,7 +12,7 @@ use Rattle.op_eval.specs.Views.{shape_of}
 use Rattle.rule_term.specs.Formed.{may_stand}
 use Rattle.rule_term.specs.Terms.{Nil, VarThen, LitThen, AppThen}
 use Rattle.rule_spelling.specs.Annotated.{says, size_written, cond_written, name_and_rest, quoted_annotated}
-use Rattle.rule_spelling.specs.Files.{Item, ARule, ALine, AWeight, Apply, Calc, Proof, Cases, Derive, Logged, Expected, UnknownOp, Arity, Unbound, BadOption, Excluded, BadWeight}
+use Rattle.rule_spelling.specs.Files.{Item, ARule, ALine, AWeight, Apply, Calc, Proof, Cases, Derive, Logged, Expected, UnknownOp, Arity, Unbound, BadOption, Excluded, Weight}
 use Rattle.rule_spelling.specs.Formula.{Always, Has, Not, Both, Either, formula_of}
 use Rattle.rule_spelling.specs.RuleFiles.{read_file}
 use Rattle.rule_spelling.specs.Text.{Lex, At, read_text}
@@ -92,8 +92,8 @@ stopped : map read_text (
     ∷ Err (At Excluded 3)
     ∷ Err (At Excluded 11)
     ∷ Err (At BadOption 22)
-    ∷ Err (At BadWeight 13)
-    ∷ Err (At BadWeight 23)
+    ∷ Err (At Weight 13)
+    ∷ Err (At Weight 23)
     ∷ []
 unfolding read_text read_file read_tokens piece_at is_blank starts_word is_in_word is_quote is_inside_quotes quoted is_punctuation number_piece limited
     decimal hexadecimal negative unsigned name_piece op_taken closed var_taken rule_begun side_begun rule_ended formula_taken evidence_begun weighed_taken

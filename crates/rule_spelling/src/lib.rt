@@ -8,6 +8,7 @@ ghost use Rattle.rule_spelling.specs.Laws.{
   FormulaIsSpelled,
   ReadIsSpelled,
   RulesAreFormed,
+  RulesAreNumbered,
   SpelledIsRead,
 };
 
@@ -35,7 +36,9 @@ pub fn fault_is_first()
 /// Each rule that a text says is formed: an opcode is sought, opcodes have their sources, variables are numbered in order, and
 /// the replacement has no other.
 pub fn rules_are_formed()
-    ensures { RulesAreFormed }
+    ensures formed { RulesAreFormed }
+    // They have the numbers from 0 on.
+    ensures numbered { RulesAreNumbered }
 {
     formed_is_tested();
 }
