@@ -1,4 +1,5 @@
 pub mod Order
+pub mod Pulled
 pub mod Sound
 pub mod Spelled
 pub mod Steps

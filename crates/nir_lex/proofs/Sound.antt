@@ -1,6 +1,5 @@
 -- What holds of every piece: it stays within the bytes, and is a token as the laws of tokens want it.
-use Rattle.std.proofs.Common.{◌≡◌, ℕ, zero, suc, ◌+◌, ◌^◌, ◌<◌, ◌≤◌, Bool, true, false, eqb, ltb, ◌&&◌, List, [], ◌∷◌, length, take, drop, Option, Some, None, Result, Err, ℤ, pos, negsuc, neg_ℤ, arith, length-drop}
-use Rattle.std.specs.Prelude.{IfOk}
+use Rattle.std.proofs.Common.{◌≡◌, ℕ, zero, suc, ◌+◌, ◌^◌, ◌<◌, ◌≤◌, Bool, true, false, eqb, ltb, ◌&&◌, List, [], ◌∷◌, length, take, drop, Option, Some, None, Result, Ok, Err, ℤ, pos, negsuc, neg_ℤ, arith, length-drop}
 use Rattle.std.specs.List.{prefix_len}
 use Rattle.std.specs.Char.{is_ascii_digit, is_ascii_hexdigit}
 use Rattle.std.specs.Str.Parse.{digits_value}
@@ -15,6 +14,7 @@ use Rattle.nir_lex.specs.declared.piece.Piece.{Piece}
 use Rattle.nir_lex.specs.Classes.{starts_word, is_in_word, is_blank, is_in_comment, is_quote, is_inside_quotes, is_punctuation, begins}
 use Rattle.nir_lex.specs.Numbers.{limited}
 use Rattle.nir_lex.specs.Pieces.{token_piece, number_piece, decimal, hexadecimal, negative, unsigned, name, quoted, piece_at}
+use Rattle.nir_lex.specs.From.{IsOfBytes}
 use Rattle.nir_lex.specs.Laws.{IsInLimits, HasLimits, least_size}
 
 -- the piece of a token that is large enough, and not the end
@@ -33,7 +33,8 @@ pub record IsSound (room : ℕ) (piece : Piece) : Type 0 where
   pub kind : IfKind piece.tail piece.kind
 
 abbrev pub AreSound : ℕ → Result Piece LexFault → Type 0
-AreSound room read = IfOk read (IsSound room)
+AreSound room (Ok piece) = IsSound room piece
+AreSound room (Err fault) = IsOfBytes fault
 
 -- a byte that begins what is left is a byte more
 begins-drop : (class : ℕ → Bool) (count : ℕ) (bytes : List ℕ) → begins class (drop count bytes) ≡ true → count + 1 ≤ length bytes

@@ -4,4 +4,5 @@ pub mod Numbers
 pub mod Pieces
 pub mod Reading
 pub mod Laws
+pub mod From
 pub mod Spelling
