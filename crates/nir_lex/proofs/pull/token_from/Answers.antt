@@ -40,8 +40,9 @@ gaps-preserved c =
     let start = c.gaps.start in
     let within : tail ≤ length after = tail_within start first after c.in-Ok.piece c.in-Ok.ensures in
     let whole = c.in-Some.ensures.cases.0 in
+    let passed = behind_gap start first after c.in-Ok.piece c.in-Ok.ensures within c.in_default-kind.is in
     rw (take_rest after tail) (record {
-      same = behind_gap start first after c.in-Ok.piece c.in-Ok.ensures within c.in_default-kind.is ∙ ap (λ l. tokens_from start 0 l) (sym whole) ∙ c.gaps.invariant.same;
+      same = passed ∙ ap (λ l. tokens_from start 0 l) (sym whole) ∙ c.gaps.invariant.same;
       rest = bytes_behind c.args.text.now start first tail after (sym whole ∙ c.gaps.invariant.rest);
       behind = omega (arith, c.gaps.invariant.behind);
       whole = omega (arith, length-drop tail after, c.in-Some.ensures.cases.1, c.gaps.invariant.whole);
