@@ -4,4 +4,5 @@
 mod numbers;
 mod words;
 
+pub use numbers::decimal;
 pub use words::{EvalWords, Said, eval_words, have_reading};
