@@ -1,6 +1,5 @@
-pub mod TextAnswers
-pub mod RuleForms
-pub mod RunLemmas
+pub mod Heard
 pub mod Stops
 pub mod Finishes
-pub mod Weighed
+pub mod RunLemmas
+pub mod TextAnswers

@@ -1,39 +1,66 @@
--- What each status says of the words, of the texts of the two sources, and which line it writes.
-use Rattle.std.specs.Prelude.{◌≡◌, ℕ, Bool, true, false, not, ◌++◌, List, [], ◌∷◌, codes, decimal, IsOk, Option, Some, None, Result, Ok, Err, nat_eq, ⊤, ◌⊎◌}
-use Rattle.std.specs.List.{starts_with}
+-- What each status is: its number, its place, the stage at which a run ends with it, and the line that it writes.
+use Rattle.std.specs.Prelude.{◌≡◌, ℕ, Bool, true, false, ◌++◌, List, [], ◌∷◌, codes, decimal, Option, Some, None, ◌⊎◌}
+use Rattle.std.specs.List.{flat_map}
 use Rattle.nir_host.specs.declared.fault.Which.TheVariants.{Rules, Shader}
-use Rattle.nir_ir.specs.Shader as ir
+use Rattle.nir_lex.specs.declared.fault.LexFault.TheVariants.{BadByte, BadNumber}
+use Rattle.nir_lex.specs.declared.fault.LexFault.TheVariants as lex
 use Rattle.text_bytes.specs.Lists.{numbers_text}
+use Rattle.size_infer.specs.declared.fault.SizeFault.{SizeFault}
+use Rattle.size_infer.specs.declared.fault.SizeFault.TheVariants as size
+use Rattle.rule_read.specs.declared.fault.RuleFault.{RuleFault}
+use Rattle.rule_read.specs.declared.fault.RuleFault.TheVariants as rule
 use Rattle.rule_check.specs.declared.refused.Refused.{Refused}
 use Rattle.rule_check.specs.declared.refused.RuleCause.{RuleCause}
-use Rattle.rule_check.specs.declared.refused.RuleCause.TheVariants.{Cases, TooManyCases}
-use Rattle.rule_check.specs.Accepted.{refusal_of}
-use Rattle.rule_read.specs.RuleFile.{RuleFile}
+use Rattle.rule_check.specs.declared.refused.RuleCause.TheVariants.{Size, NoEvidence, Cases, TooManyCases, NotBuilt}
 use Rattle.nir_mean.specs.Faults.{fault_place}
 use Rattle.nir_mean.specs.ShaderLines.{invalid_line, syntax_line, which_text}
-use Rattle.nir_mean.specs.ShaderText.{Answer, Faulty, Invalid, Sound, answer_of}
-use Rattle.nir_mean.specs.ShaderText as answer
 use Rattle.nir_opt.specs.declared.status.Status.{Status}
-use Rattle.nir_opt.specs.declared.status.Status.TheVariants.{Usage, ReadFault, WriteFault, RuleRefused, ShaderSyntax, ShaderInvalid, NotBuilt, OutOfMemory}
+use Rattle.nir_opt.specs.declared.status.Status.TheVariants.{Usage, ReadFault, WriteFault, RulesSyntax, RuleRefused, ShaderSyntax, ShaderInvalid, OutOfMemory}
 use Rattle.nir_opt.specs.declared.status.Status.TheVariants as status
-
--- one word, that does not begin with `--`
-abbrev pub has_reading : List (List ℕ) → Bool
-has_reading [] = false
-has_reading (word ∷ []) = not (starts_with nat_eq word (codes "--"))
-has_reading (word ∷ another ∷ others) = false
 
 abbrev pub number_of : Status → ℕ
 number_of status.Ok = 0
 number_of Usage = 2
 number_of (ReadFault which) = 3
 number_of WriteFault = 4
+number_of (RulesSyntax fault) = 5
 number_of (RuleRefused refused) = 6
 number_of (ShaderSyntax fault) = 7
 number_of (ShaderInvalid rule item) = 8
 number_of (status.TooLong which) = 9
 number_of OutOfMemory = 10
-number_of NotBuilt = 12
+
+-- ---- faults of a rule text
+
+-- its place in the text, where it is of the text
+abbrev pub rule_fault_place : RuleFault → ℕ
+rule_fault_place (rule.Lex (BadByte place)) = place
+rule_fault_place (rule.Lex (BadNumber place)) = place
+rule_fault_place (rule.Lex lex.OutOfMemory) = 0
+rule_fault_place (rule.Expected place) = place
+rule_fault_place (rule.UnknownOp place) = place
+rule_fault_place (rule.Arity place) = place
+rule_fault_place (rule.Unbound place) = place
+rule_fault_place (rule.TooLarge place) = place
+rule_fault_place (rule.BadOption place) = place
+rule_fault_place (rule.Excluded place) = place
+rule_fault_place (rule.Weight place) = place
+rule_fault_place rule.OutOfMemory = 0
+
+-- what it is called, where it is of the text
+abbrev pub rule_fault_what : RuleFault → List ℕ
+rule_fault_what (rule.Lex (BadByte place)) = codes "bad byte"
+rule_fault_what (rule.Lex (BadNumber place)) = codes "bad number"
+rule_fault_what (rule.Lex lex.OutOfMemory) = []
+rule_fault_what (rule.Expected place) = codes "unexpected"
+rule_fault_what (rule.UnknownOp place) = codes "unknown opcode"
+rule_fault_what (rule.Arity place) = codes "wrong number of sources"
+rule_fault_what (rule.Unbound place) = codes "unbound variable"
+rule_fault_what (rule.TooLarge place) = codes "too large"
+rule_fault_what (rule.BadOption place) = codes "bad condition"
+rule_fault_what (rule.Excluded place) = codes "left out"
+rule_fault_what (rule.Weight place) = codes "bad weight"
+rule_fault_what rule.OutOfMemory = []
 
 -- the place of a syntax fault, else 0
 abbrev pub place_of : Status → ℕ
@@ -41,97 +68,31 @@ place_of status.Ok = 0
 place_of Usage = 0
 place_of (ReadFault which) = 0
 place_of WriteFault = 0
+place_of (RulesSyntax fault) = rule_fault_place fault
 place_of (RuleRefused refused) = 0
 place_of (ShaderSyntax fault) = fault_place fault
 place_of (ShaderInvalid rule item) = 0
 place_of (status.TooLong which) = 0
 place_of OutOfMemory = 0
-place_of NotBuilt = 0
 
--- the rules of a file are accepted, or this is the first that is not; no file is neither
-abbrev pub AreAccepted : Option RuleFile → Type 0
-AreAccepted None = ⊥
-AreAccepted (Some file) = refusal_of file.entries ≡ None
-
-abbrev pub AreRefused : Refused → Option RuleFile → Type 0
-AreRefused refused None = ⊥
-AreRefused refused (Some file) = refusal_of file.entries ≡ Some refused
-
--- the status says this of the rules of the rule text, where it is built: nothing, where it came before that was looked at
-abbrev pub RulesFit : Status → Option RuleFile → Type 0
-RulesFit status.Ok file = AreAccepted file
-RulesFit Usage file = ⊤
-RulesFit (ReadFault Rules) file = ⊤
-RulesFit (ReadFault Shader) file = AreAccepted file
-RulesFit WriteFault file = AreAccepted file
-RulesFit (RuleRefused refused) file = AreRefused refused file
-RulesFit (ShaderSyntax fault) file = AreAccepted file
-RulesFit (ShaderInvalid rule item) file = AreAccepted file
-RulesFit (status.TooLong Rules) file = ⊥
-RulesFit (status.TooLong Shader) file = AreAccepted file
-RulesFit OutOfMemory file = ⊤
-RulesFit NotBuilt file = file ≡ None
-
--- what becomes of a text that holds a valid shader or not
-abbrev pub answer_on : Answer → Result ir.Shader Status
-answer_on answer.TooLong = Err (status.TooLong Shader)
-answer_on (Faulty fault) = Err (ShaderSyntax fault)
-answer_on (Invalid rule item) = Err (ShaderInvalid rule item)
-answer_on (Sound shader) = Ok shader
-
--- the valid shader of a shader text, or the status for every other text
-unfoldable pub shader_answer : List ℕ → Result ir.Shader Status
-shader_answer text = answer_on (answer_of text)
-
--- and this of the shader text: it has a valid shader, or the status is the one for it, or nothing
-abbrev pub ShaderFits : Status → Result ir.Shader Status → Type 0
-ShaderFits status.Ok answer = IsOk answer
-ShaderFits Usage answer = ⊤
-ShaderFits (ReadFault which) answer = ⊤
-ShaderFits WriteFault answer = IsOk answer
-ShaderFits (RuleRefused refused) answer = ⊤
-ShaderFits (ShaderSyntax fault) answer = answer ≡ Err (ShaderSyntax fault)
-ShaderFits (ShaderInvalid rule item) answer = answer ≡ Err (ShaderInvalid rule item)
-ShaderFits (status.TooLong Rules) answer = ⊤
-ShaderFits (status.TooLong Shader) answer = answer ≡ Err (status.TooLong Shader)
-ShaderFits OutOfMemory answer = ⊤
-ShaderFits NotBuilt answer = ⊤
-
--- a status that was found before the shader was read
-abbrev pub is_of_rules : Status → Bool
-is_of_rules status.Ok = false
-is_of_rules Usage = true
-is_of_rules (ReadFault Rules) = true
-is_of_rules (ReadFault Shader) = false
-is_of_rules WriteFault = false
-is_of_rules (RuleRefused refused) = true
-is_of_rules (ShaderSyntax fault) = false
-is_of_rules (ShaderInvalid rule item) = false
-is_of_rules (status.TooLong Rules) = true
-is_of_rules (status.TooLong Shader) = false
-is_of_rules OutOfMemory = false
-is_of_rules NotBuilt = true
-
--- the whole text was taken, or there was no memory
-abbrev pub EndsWell : Status → Type 0
-EndsWell status.Ok = ⊤
-EndsWell Usage = ⊥
-EndsWell (ReadFault which) = ⊥
-EndsWell WriteFault = ⊥
-EndsWell (RuleRefused refused) = ⊥
-EndsWell (ShaderSyntax fault) = ⊥
-EndsWell (ShaderInvalid rule item) = ⊥
-EndsWell (status.TooLong which) = ⊥
-EndsWell OutOfMemory = ⊤
-EndsWell NotBuilt = ⊥
+-- ---- lines
 
 abbrev pub at_values : List ℕ → List ℕ
 at_values [] = []
 at_values (value ∷ values) = codes " at " ++ numbers_text (value ∷ values)
 
+abbrev pub size_text : SizeFault → List ℕ
+size_text size.Contradiction = codes "no sizes"
+size_text (size.Ambiguous node) = codes "node " ++ decimal node ++ codes " has no size"
+size_text size.TooMany = codes "too many sizes"
+size_text size.OutOfMemory = []
+
 abbrev pub cause_text : RuleCause → List ℕ
+cause_text (Size fault) = size_text fault
+cause_text NoEvidence = codes "no evidence"
 cause_text (Cases values) = codes "cases differ" ++ at_values values
 cause_text TooManyCases = codes "too many cases"
+cause_text NotBuilt = codes "not built"
 
 abbrev pub typing_text : Option ℕ → List ℕ
 typing_text None = []
@@ -141,18 +102,37 @@ typing_text (Some typing) = codes " typing " ++ decimal typing
 abbrev pub refusal_text : Refused → List ℕ
 refusal_text refused = codes "rule " ++ decimal refused.rule ++ typing_text refused.typing ++ codes ": " ++ cause_text refused.cause
 
--- the line of a status, or nothing
-abbrev pub line_of : Status → List ℕ
-line_of status.Ok = []
-line_of Usage = codes "usage: nir_opt RULES [--limit=N] [--option=NAME] [--remarks] [--skip]\n"
-line_of (ReadFault which) = codes "read failed: " ++ which_text which ++ codes "\n"
-line_of WriteFault = codes "write failed\n"
-line_of (RuleRefused refused) = codes "rules: " ++ refusal_text refused ++ codes "\n"
-line_of (ShaderSyntax fault) = syntax_line fault
-line_of (ShaderInvalid rule item) = invalid_line rule item
-line_of (status.TooLong which) = codes "too long: " ++ which_text which ++ codes "\n"
-line_of OutOfMemory = codes "out of memory\n"
-line_of NotBuilt = codes "not built: rules\n"
+abbrev pub refusal_line : List ℕ → Refused → List ℕ
+refusal_line front refused = front ++ refusal_text refused ++ codes "\n"
+
+-- one line for each rule that is left out
+abbrev pub skipped_text : List Refused → List ℕ
+skipped_text refused = flat_map (refusal_line (codes "skipped ")) refused
+
+abbrev pub rules_line : RuleFault → List ℕ
+rules_line fault = codes "rules: byte " ++ decimal (rule_fault_place fault) ++ codes ": " ++ rule_fault_what fault ++ codes "\n"
+
+abbrev pub usage_line : List ℕ
+usage_line = codes "usage: nir_opt RULES [--limit=N] [--option=NAME] [--remarks] [--skip]\n"
+
+abbrev pub check_usage_line : List ℕ
+check_usage_line = codes "usage: nir_opt check RULES\n"
+
+-- the line of a status, or nothing, where this is told of the words
+abbrev pub line_with : List ℕ → Status → List ℕ
+line_with usage status.Ok = []
+line_with usage Usage = usage
+line_with usage (ReadFault which) = codes "read failed: " ++ which_text which ++ codes "\n"
+line_with usage WriteFault = codes "write failed\n"
+line_with usage (RulesSyntax fault) = rules_line fault
+line_with usage (RuleRefused refused) = refusal_line (codes "rules: ") refused
+line_with usage (ShaderSyntax fault) = syntax_line fault
+line_with usage (ShaderInvalid rule item) = invalid_line rule item
+line_with usage (status.TooLong which) = codes "too long: " ++ which_text which ++ codes "\n"
+line_with usage OutOfMemory = codes "out of memory\n"
+
+abbrev pub stopped_text : ℕ → List ℕ
+stopped_text rewrites = codes "stopped at " ++ decimal rewrites ++ codes " rewrites\n"
 
 -- a status whose line is one of a few
 abbrev pub has_plain_line : Status → Bool
@@ -160,17 +140,17 @@ has_plain_line status.Ok = true
 has_plain_line Usage = true
 has_plain_line (ReadFault which) = true
 has_plain_line WriteFault = true
+has_plain_line (RulesSyntax fault) = false
 has_plain_line (RuleRefused refused) = false
 has_plain_line (ShaderSyntax fault) = false
 has_plain_line (ShaderInvalid rule item) = false
 has_plain_line (status.TooLong which) = true
 has_plain_line OutOfMemory = true
-has_plain_line NotBuilt = true
 
 -- the line of a status: built, or one of a few
-abbrev pub IsLine : Option (List ℕ) → Status → Type 0
-IsLine None status = has_plain_line status ≡ true
-IsLine (Some line) status = line ≡ line_of status
+abbrev pub IsLine : List ℕ → Option (List ℕ) → Status → Type 0
+IsLine usage None status = has_plain_line status ≡ true
+IsLine usage (Some line) status = line ≡ line_with usage status
 
 -- the status that is told for one: want of memory for its line takes its place
 abbrev pub IsToldAs : Status → Status → Type 0

@@ -1,20 +1,24 @@
 -- What a call of `run` promises of its words, its two sources and its two sinks, as one fact.
-use Rattle.std.specs.Prelude.{◌≡◌, ◌↔◌, ◌≢◌, ℕ, true, false, List, [], Option, Some, IsOk}
+use Rattle.std.specs.Prelude.{◌≡◌, ◌↔◌, ◌≢◌, ℕ, Bool, true, false, List, [], ◌++◌, Option, Some, None, Ok, IsOk, if◌then◌else◌, nat_le, nat_lt}
 use Rattle.nir_host.specs.declared.fault.Which.TheVariants as which
 use Rattle.nir_host.specs.Faults.{Rose}
 use Rattle.nir_host.specs.Told.{Gains}
 use Rattle.nir_host.specs.Whole.{TakesFront}
 use Rattle.nir_ir.specs.Shader.{Shader}
-use Rattle.nir_print.specs.Text.{text_of}
 use Rattle.nir_text.specs.declared.fault.TextFault.{TextFault}
 use Rattle.nir_mean.specs.Faults.{is_of_text}
 use Rattle.nir_mean.specs.ShaderLines.{TakesLine}
 use Rattle.nir_mean.specs.ShaderText.{ReadsToEnd}
+use Rattle.rule_check.specs.Accepted.{refusals}
+use Rattle.rule_check.specs.declared.refused.Refused.{Refused}
+use Rattle.rule_read.specs.RuleFile.{RuleFile}
+use Rattle.run_words.specs.RunWords.{Given, run_words}
 use Rattle.nir_opt.specs.declared.status.Report.{Report}
+use Rattle.nir_opt.specs.declared.status.Status.{Status}
 use Rattle.nir_opt.specs.declared.status.Status.TheVariants as status
-use Rattle.nir_opt.specs.Answers.{AreAccepted, EndsWell, is_of_rules, has_reading, place_of, RulesFit, ShaderFits, line_of, shader_answer}
-use Rattle.nir_opt.specs.FirstRules.{first_rules}
-use Rattle.nir_opt.specs.Printed.{IsPrinted}
+use Rattle.nir_opt.specs.Answers.{line_with, place_of, skipped_text, stopped_text, usage_line}
+use Rattle.nir_opt.specs.Asked.{asked, Fits, IsAsked, is_free, rules_answer, shader_answer, stage_of}
+use Rattle.nir_opt.specs.Printed.{IsPrinted, printed_text}
 
 -- a source before a call and after it: the bytes that it has left, where it tells them, and its count of faults
 pub record Reading : Type 0 where
@@ -37,29 +41,59 @@ ReadFaults source = Rose source.faults_before source.faults_after
 abbrev pub WriteFaults : Writing → Type 0
 WriteFaults sink = Rose sink.faults_before sink.faults_after
 
--- the clauses of `run`
+-- ---- the lines that a run writes
+
+-- the line of a report: that of its status, or that the limit stopped it
+abbrev pub report_line : Report → List ℕ
+report_line report = if report.stopped then stopped_text report.rewrites else line_with usage_line report.status
+
+-- these are the first of those
+abbrev pub IsFrontOf : List Refused → List Refused → Type 0
+IsFrontOf front whole = (rest : List Refused) × (whole ≡ front ++ rest)
+
+-- The rules that are told to be left out: none where the run did not come behind the rules, and else the refused rules of the file; where there was no
+-- memory, the first of them.
+pub record AreSkipped (given_words : List (List ℕ)) (rules : Reading) (ending : Status) (skipped : List Refused) : Type 0 where
+  pub early : nat_le (stage_of ending) 1 ≡ true → ending ≢ status.OutOfMemory → skipped ≡ []
+  pub behind : (given : Given) → run_words given_words ≡ Some given → (text : List ℕ) → rules.left_before ≡ Some text
+      → (file : RuleFile) → rules_answer given.skip text ≡ Ok file → nat_lt 1 (stage_of ending) ≡ true → skipped ≡ refusals file.entries
+  pub no_memory : ending ≡ status.OutOfMemory → (given : Given) → run_words given_words ≡ Some given → (text : List ℕ) → rules.left_before ≡ Some text
+      → (file : RuleFile) → rules_answer given.skip text ≡ Ok file → IsFrontOf skipped (refusals file.entries)
+  pub off : (given : Given) → run_words given_words ≡ Some given → given.skip ≡ false → skipped ≡ []
+
+pub record Notes (given_words : List (List ℕ)) (rules : Reading) (lines : Writing) (report : Report) : Type 0 where
+  pub skipped : List Refused
+  pub are : AreSkipped given_words rules report.status skipped
+  pub taken : TakesLine lines.taken_before lines.taken_after lines.faults_before lines.faults_after (skipped_text skipped ++ report_line report)
+
+-- ---- the clauses of `run`
+
 pub record Ran (given_words : List (List ℕ)) (rules shader : Reading) (out lines : Writing) (report : Report) : Type 0 where
-  pub words : (report.status ≡ status.Usage) ↔ (has_reading given_words ≡ false)
-  pub rules_text : (text : List ℕ) → rules.left_before ≡ Some text → RulesFit report.status (first_rules text)
-  pub shader_text : (text : List ℕ) → shader.left_before ≡ Some text → ShaderFits report.status (shader_answer text)
+  pub words : (report.status ≡ status.Usage) ↔ (run_words given_words ≡ None)
+  pub rules_text : (given : Given) → run_words given_words ≡ Some given → (text : List ℕ) → rules.left_before ≡ Some text
+      → Fits 1 report.status (rules_answer given.skip text)
+  pub shader_text : (text : List ℕ) → shader.left_before ≡ Some text → Fits 2 report.status (shader_answer text)
+  pub asks : (rule_text shader_text : List ℕ) → rules.left_before ≡ Some rule_text → shader.left_before ≡ Some shader_text
+      → IsAsked (asked given_words rule_text shader_text) report.status
   pub syntax : (fault : TextFault) → report.status ≡ status.ShaderSyntax fault → is_of_text fault ≡ true
   pub rules_fault : report.status ≡ status.ReadFault which.Rules → ReadFaults rules
   pub shader_fault : report.status ≡ status.ReadFault which.Shader → ReadFaults shader
   pub write_fault : report.status ≡ status.WriteFault → WriteFaults out
-  pub complete : has_reading given_words ≡ true → (rule_text shader_text : List ℕ) → rules.left_before ≡ Some rule_text → shader.left_before ≡ Some shader_text
-      → (ReadFaults rules → ⊥) → (ReadFaults shader → ⊥) → (WriteFaults out → ⊥)
-      → AreAccepted (first_rules rule_text) → IsOk (shader_answer shader_text) → EndsWell report.status
   pub nothing_read : report.status ≡ status.Usage → (rules.left_after ≡ rules.left_before) × (shader.left_after ≡ shader.left_before)
-  pub shader_unread : is_of_rules report.status ≡ true → shader.left_after ≡ shader.left_before
+  pub shader_unread : nat_le (stage_of report.status) 1 ≡ true → report.status ≢ status.OutOfMemory → shader.left_after ≡ shader.left_before
   pub rules_end : report.status ≡ status.Ok → ReadsToEnd rules.left_before rules.left_after
   pub shader_end : report.status ≡ status.Ok → ReadsToEnd shader.left_before shader.left_after
   pub untouched : report.status ≢ status.Ok → report.status ≢ status.WriteFault → out.taken_after ≡ out.taken_before
-  pub printed : report.status ≡ status.Ok → (rule_text shader_text : List ℕ) → rules.left_before ≡ Some rule_text → shader.left_before ≡ Some shader_text
-      → (last : Shader) × IsPrinted rule_text shader_text report.journal report.rewrites report.limit last × Gains out.taken_before out.taken_after (text_of last)
-  pub prefix : report.status ≡ status.WriteFault → (rule_text shader_text : List ℕ) → rules.left_before ≡ Some rule_text → shader.left_before ≡ Some shader_text
+  pub printed : report.status ≡ status.Ok → (given : Given) → run_words given_words ≡ Some given
+      → (rule_text shader_text : List ℕ) → rules.left_before ≡ Some rule_text → shader.left_before ≡ Some shader_text
+      → (last : Shader) × IsPrinted given rule_text shader_text report.journal report.rewrites report.limit report.stopped last
+          × Gains out.taken_before out.taken_after (printed_text given report.journal last)
+  pub prefix : report.status ≡ status.WriteFault → (given : Given) → run_words given_words ≡ Some given
+      → (rule_text shader_text : List ℕ) → rules.left_before ≡ Some rule_text → shader.left_before ≡ Some shader_text
       → (before : List ℕ) → out.taken_before ≡ Some before
-      → (last : Shader) × IsPrinted rule_text shader_text report.journal report.rewrites report.limit last × TakesFront before out.taken_after (text_of last)
-  pub notes : TakesLine lines.taken_before lines.taken_after lines.faults_before lines.faults_after (line_of report.status)
+      → (last : Shader) × (stopped : Bool) × IsPrinted given rule_text shader_text report.journal report.rewrites report.limit stopped last
+          × TakesFront before out.taken_after (printed_text given report.journal last)
+  pub notes : Notes given_words rules lines report
   pub idle : report.status ≢ status.Ok → report.status ≢ status.WriteFault → (report.journal ≡ []) × (report.rewrites ≡ 0) × (report.limit ≡ 0)
-  pub stopped : report.stopped ≡ false
+  pub stopped : report.status ≢ status.Ok → report.stopped ≡ false
   pub place : report.place ≡ place_of report.status

@@ -1,43 +1,64 @@
 //! The line of each status.
 
-ghost use Rattle.std.specs.Prelude.{◌≡◌, ◌++◌, true, false, IfOk, OnErr, OnOk};
-ghost use Rattle.nir_opt.specs.Answers.{at_values, cause_text, has_plain_line, IsLine, line_of, typing_text};
+ghost use Rattle.std.specs.Prelude.{◌≡◌, ◌++◌, false, true, IfOk, OnErr};
+ghost use Rattle.nir_opt.specs.Answers.{has_plain_line, IsLine, line_with, rules_line, stopped_text};
 
+use crate::faults::{rule_fault_place, rule_fault_what};
+use crate::refusals::line_of_refusal;
 use crate::status::Status;
 use nir_host::{Bytes, OutOfMemory, Which};
 use nir_mean::{invalid_line, syntax_line};
-use rule_check::{Refused, RuleCause};
+use rule_read::RuleFault;
 use std::alloc::Global;
-use text_bytes::{push, push_number, push_numbers};
+use text_bytes::{push, push_number};
 
-/// The line of a status that names neither a rule nor a place, with its line feed; nothing for Ok.
-pub fn plain_line(status: &Status) -> &'static [u8]
+/// The line of a status that names neither a rule nor a place, with its line feed; nothing for Ok. `usage` is what is told of the words.
+pub fn plain_line<'a>(usage: &'a [u8], status: &Status) -> &'a [u8]
     requires { has_plain_line status.now ≡ true }
-    ensures { result.now ≡ line_of status.now }
+    ensures { result.now ≡ line_with usage.now status.now }
 {
     match status {
         Status::Ok => b"",
-        Status::Usage => {
-            b"usage: nir_opt RULES [--limit=N] [--option=NAME] [--remarks] [--skip]\n"
-        }
+        Status::Usage => usage,
         Status::ReadFault(Which::Rules) => b"read failed: rules\n",
         Status::ReadFault(Which::Shader) => b"read failed: shader\n",
         Status::WriteFault => b"write failed\n",
-        Status::RuleRefused(_) | Status::ShaderSyntax(_) | Status::ShaderInvalid { .. } => b"",
+        Status::RulesSyntax(_)
+        | Status::RuleRefused(_)
+        | Status::ShaderSyntax(_)
+        | Status::ShaderInvalid { .. } => b"",
         Status::TooLong(Which::Rules) => b"too long: rules\n",
         Status::TooLong(Which::Shader) => b"too long: shader\n",
         Status::OutOfMemory => b"out of memory\n",
-        Status::NotBuilt => b"not built: rules\n",
     }
 }
 
+/// The line for a rule text that is not in the grammar, with its line feed.
+fn line_of_rules(alloc: Global, fault: &RuleFault) -> Result<Bytes, OutOfMemory>
+    ensures { IfOk result (λ line. line ≡ rules_line fault.now) }
+{
+    let mut out = Vec::new(alloc);
+    push(&mut out, b"rules: byte ")?;
+    push_number(&mut out, rule_fault_place(fault))?;
+    push(&mut out, b": ")?;
+    push(&mut out, rule_fault_what(fault))?;
+    push(&mut out, b"\n")?;
+    Ok(Bytes::from_vec(out))
+}
+
 /// The line of a status that names a rule or a place, with its line feed; None for every other status.
-pub fn built_line(alloc: Global, status: &Status) -> Result<Option<Bytes>, OutOfMemory>
-    ensures line { IfOk result (λ built. IsLine built status.now) }
+pub fn built_line(
+    alloc: Global,
+    usage: &[u8],
+    status: &Status,
+) -> Result<Option<Bytes>, OutOfMemory>
+    ensures line { IfOk result (λ built. IsLine usage.now built status.now) }
     ensures no_memory { OnErr result (has_plain_line status.now ≡ false) }
 {
+    let _ = usage;
     match status {
-        Status::RuleRefused(refused) => Ok(Some(refusal_line(alloc, refused)?)),
+        Status::RulesSyntax(fault) => Ok(Some(line_of_rules(alloc, fault)?)),
+        Status::RuleRefused(refused) => Ok(Some(line_of_refusal(alloc, b"rules: ", refused)?)),
         Status::ShaderSyntax(fault) => Ok(Some(syntax_line(alloc, fault)?)),
         Status::ShaderInvalid { rule, item } => Ok(Some(invalid_line(alloc, *rule, *item)?)),
         Status::Ok
@@ -45,60 +66,17 @@ pub fn built_line(alloc: Global, status: &Status) -> Result<Option<Bytes>, OutOf
         | Status::ReadFault(_)
         | Status::WriteFault
         | Status::TooLong(_)
-        | Status::OutOfMemory
-        | Status::NotBuilt => Ok(None),
+        | Status::OutOfMemory => Ok(None),
     }
 }
 
-/// Adds the values at which the sides of a rule differ, where there are some.
-fn push_at_values(out: &mut Vec<u8>, values: &[u64]) -> Result<(), OutOfMemory>
-    ensures { OnOk result (out.new.items ≡ out.old.items ++ at_values values.now) }
-{
-    match values {
-        [] => Ok(()),
-        [_, ..] => {
-            push(out, b" at ")?;
-            push_numbers(out, values)
-        }
-    }
-}
-
-/// Adds why a rule is not accepted.
-fn push_cause(out: &mut Vec<u8>, cause: &RuleCause) -> Result<(), OutOfMemory>
-    ensures { OnOk result (out.new.items ≡ out.old.items ++ cause_text cause.now) }
-{
-    match cause {
-        RuleCause::Cases(values) => {
-            push(out, b"cases differ")?;
-            push_at_values(out, values.as_slice())
-        }
-        RuleCause::TooManyCases => push(out, b"too many cases"),
-    }
-}
-
-/// Adds the typing at which the evidence of a rule fails, where it is one.
-fn push_typing(out: &mut Vec<u8>, typing: Option<u32>) -> Result<(), OutOfMemory>
-    ensures { OnOk result (out.new.items ≡ out.old.items ++ typing_text typing) }
-{
-    match typing {
-        Some(typing) => {
-            push(out, b" typing ")?;
-            push_number(out, u64::from(typing))
-        }
-        None => Ok(()),
-    }
-}
-
-/// The line for a rule that is not accepted, with its line feed.
-pub fn refusal_line(alloc: Global, refused: &Refused) -> Result<Bytes, OutOfMemory>
-    ensures { IfOk result (λ line. line ≡ line_of (Status.RuleRefused refused.now)) }
+/// The line that tells that the limit on rewrites stopped a run, with its line feed.
+pub fn stopped_line(alloc: Global, rewrites: u64) -> Result<Bytes, OutOfMemory>
+    ensures { IfOk result (λ line. line ≡ stopped_text rewrites) }
 {
     let mut out = Vec::new(alloc);
-    push(&mut out, b"rules: rule ")?;
-    push_number(&mut out, u64::from(refused.rule))?;
-    push_typing(&mut out, refused.typing)?;
-    push(&mut out, b": ")?;
-    push_cause(&mut out, &refused.cause)?;
-    push(&mut out, b"\n")?;
+    push(&mut out, b"stopped at ")?;
+    push_number(&mut out, rewrites)?;
+    push(&mut out, b" rewrites\n")?;
     Ok(Bytes::from_vec(out))
 }

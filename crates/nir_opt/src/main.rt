@@ -1,17 +1,20 @@
-//! The optimiser of shader texts, `nir_opt RULES < SHADER`, and their evaluator, `nir_opt eval --turns=N < SHADER`.
+//! The optimiser of shader texts, `nir_opt RULES < SHADER`, the check of rules, `nir_opt check RULES`, and the evaluator of shaders,
+//! `nir_opt eval --turns=N < SHADER`.
 #![tactic(auto)]
 
-mod first_rules;
+mod check;
+mod faults;
 mod lines;
 mod optimise;
+mod printed;
 mod program;
+mod refusals;
 mod report;
 mod run;
 mod status;
 #[cfg(test)]
 mod tests;
 mod texts;
-mod words;
 
 ghost use Rattle.std.specs.Prelude.{◌≡◌, ◌⊎◌, ◌<◌};
 ghost use Rattle.nir_opt.specs.Program.{EndsWith, IsNumber};

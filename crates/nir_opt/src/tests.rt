@@ -1,10 +1,12 @@
 //! Whole runs of the program over sources and sinks in memory. A case is what a run is given and how it ends; its table is
 //! a static, which costs the proof of a test next to nothing.
 
+mod check;
 mod eval;
 mod loops;
 mod refusals;
 mod rewriting;
+mod rule_files;
 mod texts;
 mod validity;
 
@@ -51,6 +53,7 @@ struct Case<'a> {
     notes: &'a [u8],
     /// What an optimisation reports. Of an evaluation these are 0 and nothing.
     limit: u64,
+    stopped: bool,
     place: u64,
     journal: &'a [Step],
 }
@@ -87,6 +90,7 @@ const PRINTED: Case<'static> = Case {
     out: EMPTY_BLOCK,
     notes: b"",
     limit: 4096,
+    stopped: false,
     place: 0,
     journal: &[],
 };
@@ -96,13 +100,6 @@ const REFUSED: Case<'static> = Case {
     out: b"",
     limit: 0,
     ..PRINTED
-};
-
-/// Rules that are not built.
-const NO_RULES: Case<'static> = Case {
-    number: 12,
-    notes: b"not built: rules\n",
-    ..REFUSED
 };
 
 /// Words as the program takes them.
@@ -219,8 +216,9 @@ fn is_reported(rt: &impl Abort, ended: &Ended, case: &Case<'_>) {
                 [case.limit, case.place, case.journal.len() as u64]
             );
             assert_eq!(rt; report.journal.as_slice(), case.journal);
+            assert_eq!(rt; report.stopped, case.stopped);
         }
-        Ended::Eval(_) => assert_eq!(rt; case.limit, 0),
+        Ended::Check(_) | Ended::Eval(_) => assert_eq!(rt; case.limit, 0),
     }
 }
 

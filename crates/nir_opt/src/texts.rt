@@ -1,77 +1,82 @@
-//! The texts of the two sources, read to their ends: the table of the rules, and the shader.
+//! The texts of the two sources, read to their ends: the rules, and the shader.
 
-ghost use Rattle.std.specs.Prelude.{◌≡◌, ℕ, ◌≤◌, true, List, length, Some, IfOk, IfErr, OnOk};
+ghost use Rattle.std.specs.Prelude.{◌≡◌, ℕ, ◌≤◌, true, false, List, length, Ok, Some, IfOk, IfErr, OnOk};
 ghost use Rattle.nir_host.specs.Faults.{Rose};
 ghost use Rattle.nir_mean.specs.ShaderText.{ReadsToEnd};
 ghost use Rattle.nir_validate.specs.Valid.{Valid};
-ghost use Rattle.nir_ops.specs.declared.op.Op.{Op as Opcode};
-ghost use Rattle.rule_term.specs.Descending.{is_descending};
-ghost use Rattle.rule_term.specs.Table.{op_weight};
-ghost use Rattle.rule_term.specs.Weights.{initial_weight};
-ghost use Rattle.nir_opt.specs.Answers.{shader_answer};
-ghost use Rattle.nir_opt.specs.FirstRules.{are_first_rules, first_rules};
-ghost use Rattle.nir_opt.specs.Texts.{EndsRules, EndsShader, ReadFits, TableFits};
+ghost use Rattle.rule_read.specs.Reads.{rules_of_text};
+ghost use Rattle.nir_opt.specs.Asked.{judged, rules_answer, shader_answer};
+ghost use Rattle.rule_check.specs.Accepted.{refusals};
+ghost use Rattle.nir_opt.specs.Texts.{CheckedFits, EndsRules, EndsShader, FileFits, ReadFits};
 
-use crate::first_rules::first_rules;
 use crate::status::Status;
 use nir_host::{ReadAllFault, Source, Which, read_all};
 use nir_ir::Shader;
 use nir_mean::{ShaderRefusal, read_shader_bytes, valid_shader};
-use rule_check::{CheckFault, check_file};
-use rule_read::RuleFile;
-use rule_term::Table;
+use rule_check::{CheckFault, Checked, RefusedList, check_file, check_file_skipping};
+use rule_read::{RuleFault, RuleFile, read_rules};
 use std::alloc::Global;
 
 /// How many bytes of rules are read.
 const MAX_RULES: u64 = 67_108_864;
 
-/// Reads the rules to their end, and makes the table of those that are built and accepted.
-pub fn read_table<R: Source>(alloc: Global, rules: &mut R) -> Result<Table, Status>
-    ensures text { (text : List ℕ) → R.left rules.old ≡ Some text → TableFits result (first_rules text) }
-    ensures falls { IfOk result (λ table. is_descending table ≡ true) }
-    ensures weights { IfOk result (λ table. (op : Opcode) → op_weight table op ≡ initial_weight op) }
+/// Reads the rules to their end, as a rule file.
+pub fn read_file<R: Source>(alloc: Global, rules: &mut R) -> Result<RuleFile, Status>
+    ensures text { (text : List ℕ) → R.left rules.old ≡ Some text → FileFits result (rules_answer true text) }
     ensures end { OnOk result (ReadsToEnd (R.left rules.old) (R.left rules.new)) }
     ensures stop { IfErr result (λ status. EndsRules status (Rose (R.faults rules.old) (R.faults rules.new))) }
 {
     match read_all(alloc, rules, MAX_RULES) {
-        Ok(text) => table_of(alloc, text.as_slice()),
+        Ok(text) => file_of_text(alloc, text.as_slice()),
         Err(ReadAllFault::ReadFault) => Err(Status::ReadFault(Which::Rules)),
-        Err(ReadAllFault::TooLong) => Err(Status::NotBuilt),
+        Err(ReadAllFault::TooLong) => Err(Status::TooLong(Which::Rules)),
         Err(ReadAllFault::OutOfMemory) => Err(Status::OutOfMemory),
     }
 }
 
-/// The table of a text that was read to its end.
-fn table_of(alloc: Global, text: &[u8]) -> Result<Table, Status>
-    ensures text { TableFits result (first_rules text.now) }
-    ensures falls { IfOk result (λ table. is_descending table ≡ true) }
-    ensures weights { IfOk result (λ table. (op : Opcode) → op_weight table op ≡ initial_weight op) }
+/// The rule file of a text that was read to its end.
+fn file_of_text(alloc: Global, text: &[u8]) -> Result<RuleFile, Status>
+    requires { length text.now ≤ 67108864 }
+    ensures text { FileFits result (rules_answer true text.now) }
     ensures stop { IfErr result (λ status. EndsRules status ⊥) }
 {
-    match first_rules(alloc, text) {
-        Ok(Some(file)) => checked(alloc, file),
-        Ok(None) => Err(Status::NotBuilt),
-        Err(_no_memory) => Err(Status::OutOfMemory),
+    match read_rules(alloc, text) {
+        Ok(file) => Ok(file),
+        Err(RuleFault::OutOfMemory) => Err(Status::OutOfMemory),
+        Err(fault) => Err(Status::RulesSyntax(fault)),
     }
 }
 
-/// The table of rules that are built, where they are accepted. A variable or a number takes the place of an opcode, so it descends.
-fn checked(alloc: Global, file: RuleFile) -> Result<Table, Status>
-    requires form { are_first_rules file ≡ true }
-    ensures text { TableFits result (Some file) }
-    ensures falls { IfOk result (λ table. is_descending table ≡ true) }
-    ensures weights { IfOk result (λ table. (op : Opcode) → op_weight table op ≡ initial_weight op) }
+/// The table of the rules of a file that are accepted, and the others, which there may be where rules are skipped.
+pub fn check_rules(alloc: Global, file: RuleFile, skip: bool) -> Result<Checked, Status>
+    ensures fits { CheckedFits result (judged skip file (refusals file.entries)) }
     ensures stop { IfErr result (λ status. EndsRules status ⊥) }
 {
+    if skip {
+        return match check_file_skipping(alloc, file) {
+            Ok(checked) => Ok(checked),
+            Err(_no_memory) => Err(Status::OutOfMemory),
+        };
+    }
     match check_file(alloc, file) {
-        Ok(table) => {
-            // The proof learns that the rules are formed.
-            table.rules_hold();
-            Ok(table)
-        }
-        Err(CheckFault::Refused(rule)) => Err(Status::RuleRefused(rule)),
+        Ok(table) => Ok(Checked {
+            table,
+            refused: RefusedList::new(alloc),
+        }),
+        Err(CheckFault::Refused(refused)) => Err(Status::RuleRefused(refused)),
         Err(CheckFault::OutOfMemory) => Err(Status::OutOfMemory),
     }
+}
+
+/// Reads the rules to their end, and makes the table of those that are accepted. Where one is not, it is refused or, where rules are
+/// skipped, told.
+pub fn read_table<R: Source>(alloc: Global, rules: &mut R, skip: bool) -> Result<Checked, Status>
+    ensures text { (text : List ℕ) → R.left rules.old ≡ Some text → CheckedFits result (rules_answer skip text) }
+    ensures end { OnOk result (ReadsToEnd (R.left rules.old) (R.left rules.new)) }
+    ensures stop { IfErr result (λ status. EndsRules status (Rose (R.faults rules.old) (R.faults rules.new))) }
+{
+    let file = read_file(alloc, rules)?;
+    check_rules(alloc, file, skip)
 }
 
 /// Reads the shader to its end, and finds it valid. A text defines at most 16,384 values.

@@ -6,4 +6,4 @@ mod rewrite;
 mod rounds;
 
 pub use rewrite::rewrite_at;
-pub use rounds::rewrite_all;
+pub use rounds::{is_settled, rewrite_all};

@@ -145,3 +145,23 @@ pub fn rewrite_all<L: Ledger>(
     }
     Ok(done)
 }
+
+/// Whether no rule of the table matches at any value. It takes no memory.
+pub fn is_settled<L: Ledger>(
+    work: &Work,
+    table: &Table,
+    options: &Options,
+    steps: &mut Steps<L>,
+) -> bool
+    requires fits { Fits work.now table.now.rules }
+    ensures { result ≡ is_settled options.now table.now.rules work.now.shader }
+{
+    work.keeps_shape();
+    table.rules_hold();
+    for number in 0..work.next_value() {
+        if first_match(table, options, work, ValueId(number), steps).is_some() {
+            return false;
+        }
+    }
+    true
+}

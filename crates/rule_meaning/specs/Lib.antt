@@ -8,6 +8,7 @@ pub mod Matched
 pub mod Parts
 pub mod SourceViews
 pub mod StepSame
+pub mod SettledLaws
 pub mod Unfit
 pub mod Views
 pub mod Walked

@@ -24,7 +24,7 @@ use Rattle.nir_mean.specs.Same.{Same-refl, Same-trans}
 use Rattle.run_laws.specs.InPlace.{Keeps}
 use Rattle.rule_meaning.specs.PutLaws.{put-keeps}
 
-formed_at : (table : List Rule) (place : ℕ) (rule : Rule) → AllFormed table → slice_get table place ≡ Some rule → IsFormed rule
+pub formed_at : (table : List Rule) (place : ℕ) (rule : Rule) → AllFormed table → slice_get table place ≡ Some rule → IsFormed rule
 formed_at [] place rule formed at = absurd (none-some rule at)
 formed_at (first ∷ rest) zero rule formed at = subst IsFormed (same_Some first rule at) formed.0
 formed_at (first ∷ rest) (suc place) rule formed at = formed_at rest place rule formed.1 at

@@ -554,8 +554,11 @@ fn no_status_is_changed_where_its_line_is_not_taken(rt: HostRuntime) {
 /// Words, and the place of RULES among them.
 type Place<'a> = (&'a [&'a [u8]], Option<usize>);
 
-static PLACES_OF_RULES: [Place; 4] = [
+static PLACES_OF_RULES: [Place; 7] = [
     (&[], None),
+    (&[b"check"], None),
+    (&[b"check", b"r"], Some(1)),
+    (&[b"check", b"r", b"s"], Some(1)),
     (&[b"eval", b"r"], None),
     (&[b"r"], Some(0)),
     (&[b"--eval"], Some(0)),

@@ -1,9 +1,9 @@
 //! Words and texts that are refused, and sources and sinks that fail.
 
 use super::rewriting::{DIFFER, REWRITTEN};
-use super::texts::{EMPTY_BLOCK, WIDE};
+use super::texts::EMPTY_BLOCK;
 use super::validity::BROKEN;
-use super::{Case, NO_RULES, PRINTED, REFUSED, Text, all_end, all_end_unheard, uncounted};
+use super::{Case, PRINTED, REFUSED, Text, all_end, all_end_unheard, uncounted};
 use nir_host::OutOfMemory;
 use std::alloc::Global;
 
@@ -14,7 +14,7 @@ const UNREAD: Case<'static> = Case {
     ..REFUSED
 };
 
-static USAGE: [Case; 4] = [
+static USAGE: [Case; 13] = [
     Case {
         words: &[],
         ..UNREAD
@@ -24,11 +24,47 @@ static USAGE: [Case; 4] = [
         ..UNREAD
     },
     Case {
-        words: &[b"r", b"--skip"],
+        words: &[b"r", b"s"],
         ..UNREAD
     },
     Case {
-        words: &[b"r", b"s"],
+        words: &[b"r", b"--limit=01"],
+        ..UNREAD
+    },
+    Case {
+        words: &[b"r", b"--limit=1000001"],
+        ..UNREAD
+    },
+    Case {
+        words: &[b"r", b"--limit="],
+        ..UNREAD
+    },
+    Case {
+        words: &[b"r", b"--limit=1", b"--limit=1"],
+        ..UNREAD
+    },
+    Case {
+        words: &[b"r", b"--skip", b"--skip"],
+        ..UNREAD
+    },
+    Case {
+        words: &[b"r", b"--remarks", b"--remarks"],
+        ..UNREAD
+    },
+    Case {
+        words: &[b"r", b"--option=1a"],
+        ..UNREAD
+    },
+    Case {
+        words: &[b"r", b"--option="],
+        ..UNREAD
+    },
+    Case {
+        words: &[b"r", b"--skip=1"],
+        ..UNREAD
+    },
+    Case {
+        words: &[b"r", b""],
         ..UNREAD
     },
 ];
@@ -38,76 +74,108 @@ fn words_without_a_reading_are_refused(rt: HostRuntime) {
     all_end(&rt, rt.alloc(), &USAGE);
 }
 
-/// Rules that are not built, before a shader at another size.
-const NEITHER: Case<'static> = Case {
-    shader: Text::Whole(WIDE),
-    ..NO_RULES
+/// Rule texts that are not in the grammar.
+const MISWRITTEN: Case<'static> = Case {
+    number: 5,
+    ..REFUSED
 };
 
-static OTHER_RULES: [Case; 13] = [
+static RULE_FAULTS: [Case; 12] = [
     Case {
-        rules: Text::Whole(b"[(('iadd', 'a', 0), 'a'), by * cases]"),
-        ..NEITHER
+        rules: Text::Whole(b"[]]"),
+        place: 2,
+        notes: b"rules: byte 2: unexpected\n",
+        ..MISWRITTEN
     },
     Case {
-        rules: Text::Whole(b"[(('iadd', 'a@8', 0), 'a')]"),
-        ..NEITHER
+        rules: Text::Whole(b"[ ? ]"),
+        place: 2,
+        notes: b"rules: byte 2: bad byte\n",
+        ..MISWRITTEN
     },
     Case {
-        rules: Text::Whole(b"[(('mov', 'a@8'), 'a'), by * cases]"),
-        ..NEITHER
+        rules: Text::Whole(b"[ 1a ]"),
+        place: 2,
+        notes: b"rules: byte 2: bad number\n",
+        ..MISWRITTEN
     },
     Case {
-        rules: Text::Whole(b"[(('imin', 'a@8', 'a'), 'a'), by * cases]"),
-        ..NEITHER
+        rules: Text::Whole(b"[((iadd3, a, 0), a)]"),
+        place: 3,
+        notes: b"rules: byte 3: unknown opcode\n",
+        ..MISWRITTEN
     },
     Case {
-        rules: Text::Whole(b"[(('iadd', 'a@8', 'b'), ('iadd', 'b', 'a')), by * cases]"),
-        ..NEITHER
+        rules: Text::Whole(b"[((iadd, a), a)]"),
+        place: 10,
+        notes: b"rules: byte 10: wrong number of sources\n",
+        ..MISWRITTEN
     },
     Case {
-        rules: Text::Whole(b"[(('iand', 'a@8', 0), False), by * cases]"),
-        ..NEITHER
+        rules: Text::Whole(b"[((iadd, a, 0), b)]"),
+        place: 16,
+        notes: b"rules: byte 16: unbound variable\n",
+        ..MISWRITTEN
     },
     Case {
-        rules: Text::Whole(b"[(('iand', 'a@8', 0), -129), by * cases]"),
-        ..NEITHER
+        rules: Text::Whole(b"[((mov, a), a)]"),
+        place: 3,
+        notes: b"rules: byte 3: left out\n",
+        ..MISWRITTEN
     },
     Case {
-        rules: Text::Whole(b"[(('iand', 'a@8', 0), 256), by * cases]"),
-        ..NEITHER
+        rules: Text::Whole(b"[((iadd, a, '~b'), a)]"),
+        place: 12,
+        notes: b"rules: byte 12: left out\n",
+        ..MISWRITTEN
     },
     Case {
-        rules: Text::Whole(b"[(('iadd', '#a@8', 0), 'a'), by * cases]"),
-        ..NEITHER
+        rules: Text::Whole(b"[((iadd, a, 0), a, 'options->a | options->b')]"),
+        place: 19,
+        notes: b"rules: byte 19: bad condition\n",
+        ..MISWRITTEN
     },
     Case {
-        rules: Text::Whole(b"[(('iadd', 'a@8(is_not_const)', 0), 'a'), by * cases]"),
-        ..NEITHER
+        rules: Text::Whole(b"[weight imul 61]"),
+        place: 13,
+        notes: b"rules: byte 13: bad weight\n",
+        ..MISWRITTEN
     },
     Case {
-        rules: Text::Whole(b"[(('inot', ('inot', ('inot', ('inot', 'a@8')))), 'a'), by * cases]"),
-        ..NEITHER
+        rules: Text::Whole(b"[weight mov 1]"),
+        place: 8,
+        notes: b"rules: byte 8: bad weight\n",
+        ..MISWRITTEN
     },
     Case {
-        rules: Text::Whole(b"[(('iadd', 1, 2), 3), by * cases]"),
-        ..NEITHER
-    },
-    Case {
-        rules: Text::Whole(b"[(('iand', ('iand', 'a@8', 'b'), ('iand', 'c', 0)), 0), by * cases]"),
-        ..NEITHER
+        rules: Text::Whole(b"[by * cases]"),
+        place: 1,
+        notes: b"rules: byte 1: unexpected\n",
+        ..MISWRITTEN
     },
 ];
 
-static OTHER_TEXTS: [Case; 1] = [Case {
-    rules: Text::Whole(b"[]]"),
-    ..NO_RULES
+#[test]
+fn the_first_fault_of_a_rule_text_is_told(rt: HostRuntime) {
+    all_end(&rt, rt.alloc(), &RULE_FAULTS);
+}
+
+/// Blanks behind two bytes of rules.
+static LONG_RULES: [Case; 1] = [Case {
+    rules: Text::Repeated {
+        front: b"[]",
+        piece: b"                                ",
+        times: 2_097_152,
+        end: b"",
+    },
+    number: 9,
+    notes: b"too long: rules\n",
+    ..REFUSED
 }];
 
 #[test]
-fn other_rules_are_not_built(rt: HostRuntime) {
-    all_end(&rt, rt.alloc(), &OTHER_RULES);
-    all_end(&rt, rt.alloc(), &OTHER_TEXTS);
+fn rule_texts_above_64_mib_are_refused(rt: HostRuntime) {
+    all_end(&rt, rt.alloc(), &LONG_RULES);
 }
 
 /// A text without its last brace.
@@ -348,7 +416,7 @@ fn faults_end_a_run(rt: HostRuntime) {
 #[test]
 fn no_status_is_changed_where_its_line_is_not_taken(rt: HostRuntime) {
     all_end_unheard(&rt, rt.alloc(), &USAGE);
-    all_end_unheard(&rt, rt.alloc(), &OTHER_TEXTS);
+    all_end_unheard(&rt, rt.alloc(), &RULE_FAULTS);
     all_end_unheard(&rt, rt.alloc(), &FAULTS);
     all_end_unheard(&rt, rt.alloc(), &LONG);
     all_end_unheard(&rt, rt.alloc(), &ENDED);

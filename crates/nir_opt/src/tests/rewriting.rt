@@ -5,14 +5,8 @@ use super::texts::{
     NEGATED, NEGATED_MOVED, NO_DOT, OPCODES, PRODUCT, PRODUCT_ZERO, RULE, SIGNED_LEAST, SWAPPED,
     TWICE, TWICE_MOVED, WIDE, WRONG, ZERO_THEN_MOVED,
 };
-use super::{Case, NO_RULES, PRINTED, REFUSED, Text, all_end};
-use crate::lines::refusal_line;
-use nir_host::Bytes;
+use super::{Case, PRINTED, REFUSED, Text, all_end};
 use nir_ir::{Step, ValueId};
-use rule_check::{CheckFault, check_file, is_ready};
-use rule_read::read_rules;
-use std::alloc::Global;
-use std::test::Fail;
 
 /// A step: the value, the rule, and the variant.
 macro_rules! step {
@@ -204,34 +198,31 @@ fn deep_sides_and_numbers_at_their_ends_are_used(rt: HostRuntime) {
 /// A rule of a file of many.
 const RULE_AGAIN: &[u8] = b"(('iadd', 'a@8', 0), 'a'), by * cases,";
 
-static MANY_RULES: [Case; 2] = [
-    Case {
-        rules: Text::Repeated {
-            front: b"[",
-            piece: RULE_AGAIN,
-            times: 16,
-            end: b"]",
-        },
-        ..REWRITTEN
+static MANY_RULES: [Case; 1] = [Case {
+    rules: Text::Repeated {
+        front: b"[",
+        piece: RULE_AGAIN,
+        times: 100,
+        end: b"]",
     },
-    Case {
-        rules: Text::Repeated {
-            front: b"[",
-            piece: RULE_AGAIN,
-            times: 17,
-            end: b"]",
-        },
-        shader: Text::Whole(ADD_ZERO),
-        ..NO_RULES
-    },
-];
+    ..REWRITTEN
+}];
 
 #[test]
-fn sixteen_rules_are_built(rt: HostRuntime) {
+fn a_file_has_many_rules(rt: HostRuntime) {
     all_end(&rt, rt.alloc(), &MANY_RULES);
 }
 
-pub(super) static DIFFER: [Case; 4] = [
+pub(super) static DIFFER: [Case; 5] = [
+    // a late difference
+    Case {
+        rules: Text::Whole(
+            b"[(('umin', ('iand', 'a@8', 'b'), 254), ('iand', 'a', 'b')), by * cases]",
+        ),
+        number: 6,
+        notes: b"rules: rule 0 typing 0: cases differ at 255, 255\n",
+        ..REFUSED
+    },
     Case {
         rules: Text::Whole(
             b"[(('iadd', 'a@8', 0), 'a'), by * cases, (('ior', 'a@8', 254), 254), by * cases]",
@@ -267,26 +258,4 @@ pub(super) static DIFFER: [Case; 4] = [
 #[test]
 fn a_rule_whose_sides_differ_is_refused(rt: HostRuntime) {
     all_end(&rt, rt.alloc(), &DIFFER);
-}
-
-/// The line for the first rule of a text that is not accepted.
-fn refusal_of(alloc: Global, text: &[u8]) -> Result<Bytes, Fail> {
-    let file = read_rules(alloc, text)?.ok_or("a reading")?;
-    if !is_ready(&file) {
-        return Ok(Bytes::new(alloc));
-    }
-    match check_file(alloc, file) {
-        Ok(_table) => Ok(Bytes::new(alloc)),
-        Err(CheckFault::Refused(refused)) => Ok(refusal_line(alloc, &refused)?),
-        Err(CheckFault::OutOfMemory) => Ok(Bytes::new(alloc)),
-    }
-}
-
-#[test]
-fn a_late_difference_is_told(rt: HostRuntime) -> Result<(), Fail> {
-    let text: &[u8] = b"[(('umin', ('iand', 'a@8', 'b'), 254), ('iand', 'a', 'b')), by * cases]";
-    let line = refusal_of(rt.alloc(), text)?;
-    let told: &[u8] = b"rules: rule 0 typing 0: cases differ at 255, 255\n";
-    assert_eq!(rt; line.as_slice(), told);
-    Ok(())
 }
