@@ -1,19 +1,17 @@
 -- What a walk along the search side of a rule says of a match.
 use Rattle.std.specs.Prelude.{◌≡◌, refl, ◌+◌, ◌<◌, ◌-◌, ℕ, zero, suc, List, [], ◌∷◌, ◌++◌, Option, Some, None, Bool, true, false, length, replicate, slice_get, sum_by, if◌then◌else◌}
-use Rattle.std.proofs.Common.{sym, ◌∙◌, ap, subst, drop, take, get_or, zero-add, arith}
+use Rattle.std.proofs.Common.{sym, ◌∙◌, ap, subst, drop, take, zero-add, arith}
 use Rattle.std.proofs.lemmas.List.Sums.{sum_by-append}
 use Rattle.std.proofs.lemmas.Option.{none-some, same_Some}
 use Rattle.std.specs.List.{range_with_len}
 use Rattle.std.specs.Option.{option_map, option_or}
 use Rattle.nir_ir.specs.declared.ids.ValueId.{ValueId}
 use Rattle.nir_ir.specs.Nodes.{Nodes}
-use Rattle.rule_term.specs.declared.term.Term.{Term}
-use Rattle.rule_term.specs.Lists as lists
-use Rattle.rule_term.specs.Terms.{Terms, Nil, VarThen, LitThen, AppThen, terms_of}
+use Rattle.rule_term.specs.Terms.{Terms}
 use Rattle.rule_term.specs.Rule.{Rule}
 use Rattle.nir_search.specs.declared.hit.Bind.{Bind}
 use Rattle.rule_term.specs.Options.{when_holds}
-use Rattle.rule_term.specs.Variants.{commutes, variant_count}
+use Rattle.rule_term.specs.Variants.{variant_count}
 use Rattle.nir_search.specs.Match.{all_bound, is_typed, match_of, met, root_view}
 use Rattle.rule_term.specs.declared.when.Options.{Options}
 use Rattle.nir_search.specs.declared.hit.Hit.{Hit}
@@ -65,18 +63,6 @@ pub never_found : (options : Options) (rule : Rule) (place : ℕ) (body : Nodes)
 never_found options rule place body value never =
     sym (ap (λ (o : Option Hit). if when_holds options rule.when then o else None) (never_first rule place body value never (range_with_len 0 (variant_count rule)))
     ∙ none_either (when_holds options rule.when))
-
--- commutative opcodes of one list and then of another
-pub commutes-then : (a b : Terms) → commutes (lists.then a b) ≡ commutes a + commutes b
-commutes-then Nil b = omega arith
-commutes-then (VarThen var constant size cond rest) b = commutes-then rest b
-commutes-then (LitThen value boolean rest) b = commutes-then rest b
-commutes-then (AppThen op size once args rest) b =
-    let inner : commutes (lists.then rest b) ≡ commutes rest + commutes b = commutes-then rest b in
-    omega (arith, inner)
-
-pub commutes-drop : (list : List Term) (i : ℕ) (t : Term) → i < length list → t ≡ get_or list i t → commutes (terms_of (drop i list)) ≡ commutes (terms_of (t ∷ [])) + commutes (terms_of (drop (i + 1) list))
-commutes-drop list i t within at = ap commutes (lists.terms_of-drop list i t within at) ∙ commutes-then (terms_of (t ∷ [])) (terms_of (drop (i + 1) list))
 
 -- the item at a place, and what stands behind it
 drop_cons : {A : Type 0} (list : List A) (i : ℕ) (a : A) → slice_get list i ≡ Some a → drop i list ≡ a ∷ drop (i + 1) list

@@ -22,6 +22,7 @@ use Rattle.rule_term.specs.Splits.{drop_one, size_of-then, terms_count-terms_of}
 use Rattle.rule_term.specs.Typings.{size_of}
 use Rattle.nir_search.specs.declared.hit.Bind.{Bind}
 use Rattle.rule_term.specs.Variants.{bits_behind, bits_left, is_swapped}
+use Rattle.rule_variants.specs.BitLaws.{bits_behind-drop}
 use Rattle.nir_search.specs.Match.{matches, met, bind, children, front, has_op, is_applied, is_literal, is_taken}
 use Rattle.nir_search.specs.Walks.{NeverMatches, Walks}
 
@@ -37,12 +38,6 @@ and_then_if f false o = refl
 and_then_same : {A : Type 0} (f g : A → Option A) → ((a : A) → f a ≡ g a) → (o : Option A) → option_and_then f o ≡ option_and_then g o
 and_then_same f g h None = refl
 and_then_same f g h (Some a) = h a
-
-pub bits_behind-then : (a b : Terms) (bits : ℕ) → bits_behind (lists.then a b) bits ≡ bits_behind b (bits_behind a bits)
-bits_behind-then Nil b bits = refl
-bits_behind-then (VarThen var constant size cond rest) b bits = bits_behind-then rest b bits
-bits_behind-then (LitThen value boolean rest) b bits = bits_behind-then rest b bits
-bits_behind-then (AppThen op size once args rest) b bits = bits_behind-then rest b (bits_behind args (bits_left op bits))
 
 pub matches-then : (body : Nodes) (a b : Terms) (bits : ℕ) (views : List Bind) (bound : List (Option Bind))
     → matches body (lists.then a b) bits views bound ≡ option_and_then (matches body b (bits_behind a bits) (drop (terms_count a) views)) (matches body a bits views bound)
@@ -138,13 +133,6 @@ met_at body list i t bits views within at =
     ∙ ap (λ l. met body (terms_of (t ∷ [])) bits (drop i views) ++ met body (terms_of (drop (i + 1) list)) (bits_behind (terms_of (t ∷ [])) bits) l) (behind_one t i views)
     ∙ ap (λ l. l ++ met body (terms_of (drop (i + 1) list)) (bits_behind (terms_of (t ∷ [])) bits) (drop (i + 1) views)) (met_front body t bits (drop i views))
 
-pub bits_at : (list : List Term) (i : ℕ) (t : Term) (bits : ℕ)
-    → i < length list → t ≡ get_or list i t
-    → bits_behind (terms_of (drop i list)) bits ≡ bits_behind (terms_of (drop (i + 1) list)) (bits_behind (terms_of (t ∷ [])) bits)
-bits_at list i t bits within at =
-    ap (λ terms. bits_behind terms bits) (terms_of-drop list i t within at)
-    ∙ bits_behind-then (terms_of (t ∷ [])) (terms_of (drop (i + 1) list)) bits
-
 -- what one term meets, and what it leaves of the bits
 pub met_var : (body : Nodes) (t : Term) (var : ℕ) (constant : Bool) (size : Option Width) (cond : Option Cond) (bits : ℕ) (view : Bind) → t ≡ term.Var var constant size cond
     → met body (terms_of (t ∷ [])) bits (view ∷ []) ≡ width_at body view.value ∷ []
@@ -223,7 +211,7 @@ walk_on body list i t view bits views before after left within at is walks =
       sym (matches_at body list i t bits views before within at
           ∙ ap (option_and_then (matches body rest (bits_behind one bits) (drop (i + 1) views))) found
           ∙ ap (λ b. matches body rest b (drop (i + 1) views) after) same),
-      sym (bits_at list i t bits within at ∙ ap (bits_behind rest) same),
+      sym (bits_behind-drop list i t bits within at ∙ ap (bits_behind rest) same),
     )
 
 -- where it does not, nothing behind it is matched

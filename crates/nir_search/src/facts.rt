@@ -6,15 +6,13 @@ ghost use Rattle.std.specs.Option.{option_map, option_map_or};
 ghost use Rattle.nir_ops.specs.Width.{width_bits};
 ghost use Rattle.nir_ir.specs.Definitions.{const_at, const_of, kind_at, width_at};
 ghost use Rattle.rule_term.specs.Conditions.{cond_holds};
-ghost use Rattle.rule_term.specs.Variants.{is_commutative};
 ghost use Rattle.nir_search.specs.Match.{is_literal, is_taken, meets, same_op};
 ghost use Rattle.nir_search.specs.Walks.{words_meet};
 
 use crate::hit::Bind;
 use crate::work::Work;
-use bitflags::Flags;
 use nir_ir::{Instr, ValueId};
-use nir_ops::{Op, Width, info};
+use nir_ops::{Op, Width};
 use rule_term::{Cond, cond_holds, reduced};
 
 /// The bit size of a value.
@@ -87,12 +85,6 @@ pub fn is_literal(work: &Work, value: i128, view: &Bind) -> bool
         ),
         None => false,
     }
-}
-
-pub fn is_commutative(op: Op) -> bool
-    ensures { result ≡ is_commutative op }
-{
-    info(op).props.bits() % 2 == 1
 }
 
 pub fn same_op(a: Op, b: Op) -> bool

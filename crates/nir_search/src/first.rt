@@ -1,16 +1,14 @@
 //! The first rule that matches at a value.
 
-ghost use Rattle.std.specs.Prelude.{◌≡◌, ◌≤◌, ◌<◌, ◌+◌, ◌-◌, ◌^◌, ℕ, [], ◌∷◌, length, min, slice_get, Some, true};
-ghost use Rattle.std.specs.List.{range_with_len};
+ghost use Rattle.std.specs.Prelude.{◌≡◌, ◌≤◌, ◌<◌, ◌+◌, [], ◌∷◌, length, slice_get, Some};
 ghost use Rattle.rule_term.specs.Rule.{Rule as Whole};
-ghost use Rattle.rule_term.specs.Terms.{terms_of};
-ghost use Rattle.rule_term.specs.Variants.{commutes, variant_count};
+ghost use Rattle.rule_term.specs.Variants.{variant_count};
 ghost use Rattle.nir_search.specs.Match.{is_typed, match_of, met, root_view};
-ghost use Rattle.nir_search.specs.First.{first_hit, first_from, first_variant, hit_of, table_variants};
+ghost use Rattle.nir_search.specs.First.{first_hit, hit_of, table_variants};
 ghost use Rattle.nir_search.specs.Work.{Fits};
 
 use crate::bound::Bound;
-use crate::facts::{count_at, is_commutative};
+use crate::facts::count_at;
 use crate::hit::{Hit, Subst};
 use crate::matching::{match_term, may_match};
 use crate::steps::Steps;
@@ -18,7 +16,8 @@ use crate::view::whole_view;
 use crate::widths::widths_met;
 use crate::work::Work;
 use nir_ir::ValueId;
-use rule_term::{Options, Rule, RuleVariant, Table, Term, replace_widths};
+use rule_term::{Options, Rule, RuleVariant, Table, replace_widths};
+use rule_variants::variant_count;
 use std::sync::ledger::Ledger;
 
 /// Whether the values that the variant meets at the value have the sizes of a typing of the rule.
@@ -62,44 +61,6 @@ pub fn match_rule<L: Ledger>(
 {
     steps.tick();
     match_at(table.rule(rv.rule), rv.variant, work, value)
-}
-
-// Commutative opcodes are counted as what they leave of 8: each takes one away, as long as there is one.
-
-/// What a term leaves.
-#[cycle(commutes)]
-fn without_term(term: &Term, left: u32) -> u32
-    ensures { result ≡ left - commutes (terms_of (term.now ∷ [])) }
-{
-    match term {
-        Term::Var { .. } => left,
-        Term::Lit { .. } => left,
-        Term::App { op, args, .. } => {
-            if is_commutative(*op) {
-                return without_terms(args.as_slice(), left.saturating_sub(1));
-            }
-            without_terms(args.as_slice(), left)
-        }
-    }
-}
-
-/// What terms leave.
-#[cycle(commutes)]
-fn without_terms(terms: &[Term], left: u32) -> u32
-    ensures { result ≡ left - commutes (terms_of terms.now) }
-{
-    let mut left = left;
-    for term in terms {
-        left = without_term(term, left);
-    }
-    left
-}
-
-/// How many variants a rule has: 2 to the number of the commutative opcodes of its search side, of which at most 8 count.
-fn variant_count(rule: &Rule) -> u32
-    ensures { result ≡ variant_count rule.now }
-{
-    1 << (8 - without_term(&rule.search, 8))
 }
 
 /// What one rule finds, of which the place in the table is this one. Where the root's opcode does not write the value, no variant is tried.

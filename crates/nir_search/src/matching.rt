@@ -3,37 +3,20 @@
 ghost use Rattle.std.specs.Prelude.{◌≡◌, ◌≤◌, false, [], ◌∷◌, length, List, map, None, Option};
 ghost use Rattle.std.specs.Option.{option_map};
 ghost use Rattle.rule_term.specs.Terms.{terms_of, Nil, VarThen, LitThen, AppThen};
-ghost use Rattle.rule_term.specs.Variants.{bits_left, is_swapped};
 ghost use Rattle.nir_ir.specs.Definitions.{alu_at};
 ghost use Rattle.nir_search.specs.Match.{child, has_op, swapped};
 ghost use Rattle.nir_search.specs.Walks.{IsSources, NeverMatches, Walks};
 ghost use Rattle.nir_search.specs.declared.hit.Bind as bind;
 
 use crate::bound::Bound;
-use crate::facts::{is_commutative, is_literal, is_taken, same_op};
+use crate::facts::{is_literal, is_taken, same_op};
 use crate::hit::Bind;
 use crate::view::child_at;
 use crate::work::Work;
 use nir_ir::{Instr, Src, ValueId};
 use nir_ops::Op;
 use rule_term::{Cond, Term};
-
-/// Whether the sources of the opcode stand swapped.
-pub fn is_swapped(op: Op, bits: u32) -> bool
-    ensures { result ≡ is_swapped op bits }
-{
-    if !is_commutative(op) {
-        return false;
-    }
-    bits % 2 == 1
-}
-
-/// The bits that are left behind the opcode.
-pub fn bits_left(op: Op, bits: u32) -> u32
-    ensures { result ≡ bits_left op bits }
-{
-    if is_commutative(op) { bits / 2 } else { bits }
-}
+use rule_variants::{bits_left, is_swapped};
 
 /// Whether an instruction of this opcode writes the value.
 fn is_written_by(work: &Work, value: ValueId, op: Op) -> bool

@@ -9,13 +9,13 @@ ghost use Rattle.nir_search.specs.Match.{child, children_of, met, root_view, swa
 
 use crate::facts::{count_at, width_at};
 use crate::hit::Bind;
-use crate::matching::{bits_left, is_swapped};
 use crate::view::{child_at, whole_view};
 use crate::work::Work;
 use arrayvec::ArrayVec;
 use nir_ir::{Instr, Src, ValueId};
 use nir_ops::Width;
 use rule_term::{Rule, Term};
+use rule_variants::{bits_left, is_swapped};
 
 /// The bit sizes of the values that a variant of a rule meets at a value, one for each node of the search side, in
 /// preorder. Where an opcode of the rule meets a value that no instruction with an opcode writes, nothing is met

@@ -6,9 +6,10 @@ use Rattle.rule_term.specs.declared.term.Term.{the_lemmas}
 use Rattle.rule_term.specs.Terms.{terms_of}
 use Rattle.rule_term.specs.Typings.{size_of}
 use Rattle.rule_term.specs.Variants.{bits_behind, bits_left, is_swapped}
+use Rattle.rule_variants.specs.BitLaws.{bits_behind-drop}
 use Rattle.nir_search.specs.Match.{child, children, met, swapped}
 use Rattle.nir_search.specs.Met.{length-met}
-use Rattle.nir_search.proofs.WalkLemmas.{bits_app, bits_at, bits_lit, bits_var, met_app, met_lit, met_on, met_var, size_app, size_on, some_node}
+use Rattle.nir_search.proofs.WalkLemmas.{bits_app, bits_lit, bits_var, met_app, met_lit, met_on, met_var, size_app, size_on, some_node}
 use Rattle.nir_search.proofs.widths.+meet.Goals as goal
 
 pub meet_term-push-requires : goal.meet_term-push-requires
@@ -105,7 +106,7 @@ meet_terms-loop-at-preserved t c =
           ∙ c.loop-at.invariant.met;
       left =
           ap (bits_behind (terms_of (drop (c.loop-at.at + 1) list))) c.meet_term-bits.ensures.left
-          ∙ sym (bits_at list c.loop-at.at item c.loop-at.bits c.loop-at-test.true c.index-terms-at.is)
+          ∙ sym (bits_behind-drop list c.loop-at.at item c.loop-at.bits c.loop-at-test.true c.index-terms-at.is)
           ∙ c.loop-at.invariant.left;
       room = omega (arith, split, room, long, own);
     }
