@@ -37,9 +37,14 @@ heard_both before middle now f0 f1 f2 first second true false one two = λ taken
     inr (subst (λ f. Rose f f2) one.1 two.0, front_behind taken first second now (two.1 (taken ++ first) (one.0 taken told)))
 heard_both before middle now f0 f1 f2 first second false hears one two = λ taken told.
     inr (
-      subst (λ f. Rose f0 f) (sym two.1.0) one.0,
+      subst (λ f. Rose f0 f) (sym two.1) one.0,
       front_before taken first second now (subst (λ n. TakesFront taken n first) (sym two.0) (one.1 taken told)),
     )
+
+-- one text alone
+pub heard_one : (before now : Option (List ℕ)) (f0 f1 : ℕ) (text : List ℕ) (hears : Bool) → Hears before now f0 f1 text true hears → TakesLine before now f0 f1 text
+heard_one before now f0 f1 text true heard = λ taken told. inl (heard.0 taken told)
+heard_one before now f0 f1 text false heard = λ taken told. inr (heard.0, heard.1 taken told)
 
 -- before anything was told
 pub nothing_heard : (before : Option (List ℕ)) (faults : ℕ) → IsHeard before before faults faults [] true

@@ -3,3 +3,4 @@ pub mod Stops
 pub mod Finishes
 pub mod RunLemmas
 pub mod TextAnswers
+pub mod Checks

@@ -2,6 +2,7 @@
 use Rattle.std.specs.Prelude.{◌≡◌, refl, ◌↔◌, ◌≢◌, ◌⊎◌, ◌≤◌, ◌<◌, ℕ, Bool, true, false, List, [], ◌++◌, Option, Some, None, Result, Ok, Err, IsOk, nat_le, nat_lt}
 use Rattle.std.proofs.Common.{◌∙◌, ap, inl, inr, subst, sym}
 use Rattle.std.proofs.lemmas.Bool.{true≢false}
+use Rattle.std.proofs.lemmas.List.{append-nil}
 use Rattle.std.proofs.lemmas.Option.{none-some, same_Some}
 use Rattle.nir_host.specs.declared.fault.Which.TheVariants.{Rules, Shader}
 use Rattle.nir_text.specs.declared.fault.TextFault.{TextFault}
@@ -13,13 +14,14 @@ use Rattle.nir_mean.specs.Faults.{is_of_text}
 use Rattle.nir_mean.specs.ShaderLines.{TakesLine}
 use Rattle.nir_opt.specs.declared.status.Report.{Report}
 use Rattle.nir_opt.specs.declared.status.Status.{Status}
-use Rattle.nir_opt.specs.declared.status.Status.TheVariants.{Usage, ReadFault, WriteFault, RulesSyntax, RuleRefused, ShaderSyntax, ShaderInvalid, OutOfMemory}
+use Rattle.nir_opt.specs.declared.status.Status.TheVariants.{Usage, ReadFault, WriteFault, RuleRefused, ShaderSyntax, ShaderInvalid, OutOfMemory, NotBuilt}
 use Rattle.nir_opt.specs.declared.status.Status.TheVariants as status
 use Rattle.nir_opt.specs.Answers.{IsToldAs, line_with, skipped_text, usage_line}
 use Rattle.nir_opt.specs.Asked.{asked, asked_of, behind, Fits, IsAsked, is_free, rules_answer, shader_answer, stage_of}
 use Rattle.nir_opt.specs.Printed.{idle}
 use Rattle.nir_opt.specs.Ran.{AreSkipped, IsFrontOf, Ran, ReadFaults, Reading, WriteFaults, Writing}
-use Rattle.nir_opt.specs.Texts.{EndsRules, EndsShader}
+use Rattle.rule_check.specs.declared.refused.Checked.{Checked}
+use Rattle.nir_opt.specs.Texts.{EndsRules, EndsShader, IsCheckedOf}
 
 -- ---- statuses by stage
 
@@ -37,13 +39,13 @@ at_rules Usage fault ends = absurd ends
 at_rules (ReadFault Rules) fault ends = record { early = refl; asked_for = λ free. absurd (true≢false free); not_later = refl; not_shader = λ is. absurd (cc); not_behind = refl }
 at_rules (ReadFault Shader) fault ends = absurd ends
 at_rules WriteFault fault ends = absurd ends
-at_rules (RulesSyntax of_text) fault ends = record { early = refl; asked_for = λ _. refl; not_later = refl; not_shader = λ is. absurd (cc); not_behind = refl }
 at_rules (RuleRefused refused) fault ends = record { early = refl; asked_for = λ _. refl; not_later = refl; not_shader = λ is. absurd (cc); not_behind = refl }
 at_rules (ShaderSyntax of_text) fault ends = absurd ends
 at_rules (ShaderInvalid rule item) fault ends = absurd ends
 at_rules (status.TooLong Rules) fault ends = record { early = refl; asked_for = λ _. refl; not_later = refl; not_shader = λ is. absurd (cc); not_behind = refl }
 at_rules (status.TooLong Shader) fault ends = absurd ends
 at_rules OutOfMemory fault ends = record { early = refl; asked_for = λ free. absurd (true≢false free); not_later = refl; not_shader = λ is. absurd (cc); not_behind = refl }
+at_rules NotBuilt fault ends = record { early = refl; asked_for = λ _. refl; not_later = refl; not_shader = λ is. absurd (cc); not_behind = refl }
 
 -- a status with which reading the shader may end
 record AtShader (ending : Status) : Type 0 where
@@ -58,13 +60,13 @@ at_shader Usage fault ends = absurd ends
 at_shader (ReadFault Rules) fault ends = absurd ends
 at_shader (ReadFault Shader) fault ends = record { asked_for = λ free. absurd (true≢false free); not_rules = λ is. absurd (cc); memory_if_early = λ is. absurd (true≢false (sym is)); not_behind = refl }
 at_shader WriteFault fault ends = absurd ends
-at_shader (RulesSyntax of_text) fault ends = absurd ends
 at_shader (RuleRefused refused) fault ends = absurd ends
 at_shader (ShaderSyntax of_text) fault ends = record { asked_for = λ _. refl; not_rules = λ is. absurd (cc); memory_if_early = λ is. absurd (true≢false (sym is)); not_behind = refl }
 at_shader (ShaderInvalid rule item) fault ends = record { asked_for = λ _. refl; not_rules = λ is. absurd (cc); memory_if_early = λ is. absurd (true≢false (sym is)); not_behind = refl }
 at_shader (status.TooLong Rules) fault ends = absurd ends
 at_shader (status.TooLong Shader) fault ends = record { asked_for = λ _. refl; not_rules = λ is. absurd (cc); memory_if_early = λ is. absurd (true≢false (sym is)); not_behind = refl }
 at_shader OutOfMemory fault ends = record { asked_for = λ free. absurd (true≢false free); not_rules = λ is. absurd (cc); memory_if_early = λ _. refl; not_behind = refl }
+at_shader NotBuilt fault ends = absurd ends
 
 -- ---- a run that stopped with this status before it wrote, and told that these rules are left out
 
@@ -186,6 +188,11 @@ module _ (given_words : List (List ℕ)) (said : Given) (reads : run_words given
     pub all : (text : List ℕ) → rules.left_before ≡ Some text → (file : RuleFile) × (rules_answer said.skip text ≡ Ok file) × (skipped ≡ refusals file.entries)
     pub none : said.skip ≡ false → skipped ≡ []
 
+  -- what checking the rules tells of them
+  pub told_of : (rules : Reading) (checked : Checked) → ((text : List ℕ) → rules.left_before ≡ Some text → IsCheckedOf (rules_answer said.skip text) checked)
+      → (said.skip ≡ false → checked.refused ≡ []) → Told rules checked.refused
+  told_of rules checked known off = record { all = λ text is. let k = known text is in (k.file, k.is, k.refused); none = off }
+
   pub told_whole : (rules : Reading) (skipped : List Refused) → Told rules skipped → (text : List ℕ) → rules.left_before ≡ Some text → (file : RuleFile)
       → rules_answer said.skip text ≡ Ok file → skipped ≡ refusals file.entries
   told_whole rules skipped told text is file answer =
@@ -195,12 +202,9 @@ module _ (given_words : List (List ℕ)) (said : Given) (reads : run_words given
 
   pub tells_all : (rules : Reading) (skipped : List Refused) → Told rules skipped → Tells rules skipped
   tells_all rules skipped told = record {
-    front = λ text is file answer. ([], sym (told_whole rules skipped told text is file answer) ∙ nothing_behind skipped);
+    front = λ text is file answer. ([], sym (told_whole rules skipped told text is file answer) ∙ sym (append-nil skipped));
     off = told.none;
   }
-    where
-      nothing_behind : (list : List Refused) → list ≡ list ++ []
-      nothing_behind list = cc
 
   shader_stop : (rules shader : Reading) (skipped : List Refused) (ending : Status) → Told rules skipped → EndsShader ending (ReadFaults shader)
       → ((text : List ℕ) → shader.left_before ≡ Some text → Fits 2 ending (shader_answer text)) → Stops given_words rules shader ending skipped

@@ -34,12 +34,12 @@ is_whole status.Ok = true
 is_whole status.Usage = false
 is_whole (status.ReadFault which) = false
 is_whole status.WriteFault = false
-is_whole (status.RulesSyntax fault) = false
 is_whole (status.RuleRefused refused) = true
 is_whole (status.ShaderSyntax fault) = false
 is_whole (status.ShaderInvalid rule item) = false
 is_whole (status.TooLong which) = false
 is_whole status.OutOfMemory = false
+is_whole status.NotBuilt = false
 
 -- a status with which `check` may end
 abbrev pub is_of_check : Status → Bool
@@ -48,13 +48,13 @@ is_of_check status.Usage = true
 is_of_check (status.ReadFault which.Rules) = true
 is_of_check (status.ReadFault which.Shader) = false
 is_of_check status.WriteFault = true
-is_of_check (status.RulesSyntax fault) = true
 is_of_check (status.RuleRefused refused) = true
 is_of_check (status.ShaderSyntax fault) = false
 is_of_check (status.ShaderInvalid rule item) = false
 is_of_check (status.TooLong which.Rules) = true
 is_of_check (status.TooLong which.Shader) = false
 is_of_check status.OutOfMemory = true
+is_of_check status.NotBuilt = true
 
 pub record RanCheck (given_words : List (List ℕ)) (rules : Reading) (out lines : Writing) (ending : Status) : Type 0 where
   pub words : (ending ≡ status.Usage) ↔ (is_rules_alone given_words ≡ false)

@@ -9,7 +9,7 @@ use Rattle.rule_read.specs.RuleFile.{RuleFile}
 use Rattle.rule_term.specs.Table.{Table, op_weight}
 use Rattle.nir_mean.specs.Faults.{is_of_text}
 use Rattle.nir_opt.specs.declared.status.Status.{Status}
-use Rattle.nir_opt.specs.declared.status.Status.TheVariants.{Usage, ReadFault, WriteFault, RulesSyntax, RuleRefused, ShaderSyntax, ShaderInvalid, OutOfMemory}
+use Rattle.nir_opt.specs.declared.status.Status.TheVariants.{Usage, ReadFault, WriteFault, RuleRefused, ShaderSyntax, ShaderInvalid, OutOfMemory, NotBuilt}
 use Rattle.nir_opt.specs.declared.status.Status.TheVariants as status
 use Rattle.nir_opt.specs.Asked.{Fits}
 
@@ -40,20 +40,35 @@ abbrev pub ReadFits : Result ir.Shader Status → Result ir.Shader Status → Ty
 ReadFits (Ok shader) answer = answer ≡ Ok shader
 ReadFits (Err ending) answer = Fits 2 ending answer
 
--- reading the rules may end with this status; where that is a fault of their source, this holds
+-- reading the text of the rules may end with this status; where that is a fault of their source, this holds
+abbrev pub EndsReading : Status → Type 0 → Type 0
+EndsReading status.Ok fault = ⊥
+EndsReading Usage fault = ⊥
+EndsReading (ReadFault Rules) fault = fault
+EndsReading (ReadFault Shader) fault = ⊥
+EndsReading WriteFault fault = ⊥
+EndsReading (RuleRefused refused) fault = ⊥
+EndsReading (ShaderSyntax of_text) fault = ⊥
+EndsReading (ShaderInvalid rule item) fault = ⊥
+EndsReading (status.TooLong Rules) fault = ⊤
+EndsReading (status.TooLong Shader) fault = ⊥
+EndsReading OutOfMemory fault = ⊤
+EndsReading NotBuilt fault = ⊤
+
+-- reading and checking the rules may end so, or with a rule that is refused
 abbrev pub EndsRules : Status → Type 0 → Type 0
 EndsRules status.Ok fault = ⊥
 EndsRules Usage fault = ⊥
 EndsRules (ReadFault Rules) fault = fault
 EndsRules (ReadFault Shader) fault = ⊥
 EndsRules WriteFault fault = ⊥
-EndsRules (RulesSyntax of_text) fault = ⊤
 EndsRules (RuleRefused refused) fault = ⊤
 EndsRules (ShaderSyntax of_text) fault = ⊥
 EndsRules (ShaderInvalid rule item) fault = ⊥
 EndsRules (status.TooLong Rules) fault = ⊤
 EndsRules (status.TooLong Shader) fault = ⊥
 EndsRules OutOfMemory fault = ⊤
+EndsRules NotBuilt fault = ⊤
 
 -- and reading the shader with this one; a fault that is told of the text is one of the text
 abbrev pub EndsShader : Status → Type 0 → Type 0
@@ -62,10 +77,10 @@ EndsShader Usage fault = ⊥
 EndsShader (ReadFault Rules) fault = ⊥
 EndsShader (ReadFault Shader) fault = fault
 EndsShader WriteFault fault = ⊥
-EndsShader (RulesSyntax of_text) fault = ⊥
 EndsShader (RuleRefused refused) fault = ⊥
 EndsShader (ShaderSyntax of_text) fault = is_of_text of_text ≡ true
 EndsShader (ShaderInvalid rule item) fault = ⊤
 EndsShader (status.TooLong Rules) fault = ⊥
 EndsShader (status.TooLong Shader) fault = ⊤
 EndsShader OutOfMemory fault = ⊤
+EndsShader NotBuilt fault = ⊥

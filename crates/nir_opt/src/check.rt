@@ -37,7 +37,7 @@ fn push_verdict(
     number: u32,
     refused: Option<&Refused>,
 ) -> Result<(), OutOfMemory>
-    ensures { OnOk result (out.new.items ≡ out.old.items ++ verdict_line number (option_copied refused)) }
+    ensures { OnOk result (out.new.items ≡ out.old.items ++ verdict_line number (option_copied refused.entry)) }
 {
     match refused {
         Some(refused) => push_refusal_line(out, b"", refused),

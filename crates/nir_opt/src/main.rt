@@ -3,7 +3,6 @@
 #![tactic(auto)]
 
 mod check;
-mod faults;
 mod lines;
 mod optimise;
 mod printed;

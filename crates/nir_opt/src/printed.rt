@@ -1,12 +1,12 @@
 //! The last shader of a run is printed.
 
-ghost use Rattle.std.specs.Prelude.{◌≡◌, ◌++◌, ◌≤◌, ℕ, List, IfOk, IfSome, Ok, if◌then◌else◌};
+ghost use Rattle.std.specs.Prelude.{◌≡◌, ◌++◌, ◌≤◌, ℕ, List, [], IfOk, Ok, if◌then◌else◌};
 ghost use Rattle.nir_search.specs.Weight.{weight_of};
 ghost use Rattle.rule_read.specs.RuleFile.{RuleFile as File};
 ghost use Rattle.rule_term.specs.Table.{op_weight};
 ghost use Rattle.journal_text.specs.Journal.{journal_text};
 ghost use Rattle.nir_validate.specs.Valid.{Valid};
-ghost use Rattle.run_words.specs.Views.{given};
+ghost use Rattle.run_words.specs.Views.{given, IsFew};
 ghost use Rattle.nir_opt.specs.Answers.{stopped_text};
 ghost use Rattle.nir_opt.specs.Asked.{rules_answer, shader_answer};
 ghost use Rattle.nir_opt.specs.Texts.{IsTableOf};
@@ -43,7 +43,7 @@ pub struct Printed {
 
 /// The limit on rewrites: the one that is said, else the weight of the shader and 4,096.
 fn limit_of(given: &RunWords<'_>, table: &Table, shader: &Shader) -> u64
-    requires said { IfSome given.now.limit (λ limit. limit ≤ 1000000) }
+    requires said { IsFew given.now }
     requires few { shader.now.next_value ≤ 16384 }
     ensures limit { result ≡ limit_or given.now.limit (weight_of (op_weight table.now) shader.now) }
     ensures few { result ≤ 1000000 }
@@ -83,7 +83,7 @@ pub fn printed_last<L: Ledger>(
     words: &RunWords<'_>,
     steps: &mut Steps<L>,
 ) -> Result<Printed, OutOfMemory>
-    requires said { IfSome words.now.limit (λ limit. limit ≤ 1000000) }
+    requires said { IsFew words.now }
     requires few { shader.next_value ≤ 16384 }
     requires valid { Valid shader }
     ensures prints { IfOk result (λ printed. (rule_text shader_text : List ℕ) (file : File) → rules_answer (given words.now).skip rule_text ≡ Ok file →

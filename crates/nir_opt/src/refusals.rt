@@ -1,6 +1,6 @@
 //! The lines on rules that are not accepted.
 
-ghost use Rattle.std.specs.Prelude.{◌≡◌, ◌++◌, OnOk, IfOk};
+ghost use Rattle.std.specs.Prelude.{◌≡◌, ◌++◌, OnOk, IfOk, codes, decimal};
 ghost use Rattle.nir_opt.specs.Answers.{at_values, cause_text, refusal_line, refusal_text, size_text, skipped_text, typing_text};
 
 use nir_host::{Bytes, OutOfMemory};
@@ -22,17 +22,22 @@ fn push_at_values(out: &mut Vec<u8>, values: &[u64]) -> Result<(), OutOfMemory>
     }
 }
 
+/// Adds a node that has no size.
+fn push_node(out: &mut Vec<u8>, node: u32) -> Result<(), OutOfMemory>
+    ensures { OnOk result (out.new.items ≡ out.old.items ++ codes "node " ++ decimal node ++ codes " has no size") }
+{
+    push(out, b"node ")?;
+    push_number(out, u64::from(node))?;
+    push(out, b" has no size")
+}
+
 /// Adds why the sizes of a rule are of no use.
 fn push_size(out: &mut Vec<u8>, fault: SizeFault) -> Result<(), OutOfMemory>
     ensures { OnOk result (out.new.items ≡ out.old.items ++ size_text fault) }
 {
     match fault {
         SizeFault::Contradiction => push(out, b"no sizes"),
-        SizeFault::Ambiguous(node) => {
-            push(out, b"node ")?;
-            push_number(out, u64::from(node))?;
-            push(out, b" has no size")
-        }
+        SizeFault::Ambiguous(node) => push_node(out, node),
         SizeFault::TooMany => push(out, b"too many sizes"),
         SizeFault::OutOfMemory => push(out, b""),
     }

@@ -3,7 +3,7 @@
 ghost use Rattle.std.specs.Prelude.{◌≡◌, Bool, true, [], if◌then◌else◌};
 ghost use Rattle.nir_opt.specs.Answers.{has_plain_line, IsLine, IsToldAs, line_with, stopped_text, usage_line};
 ghost use Rattle.nir_opt.specs.Heard.{Hears};
-ghost use Rattle.nir_opt.specs.Printed.{Writes, idle, reported};
+ghost use Rattle.nir_opt.specs.Printed.{Writes, idle, is_ok, reported};
 ghost use Rattle.nir_opt.specs.Ran.{report_line};
 
 use crate::lines::{built_line, plain_line};
@@ -94,6 +94,32 @@ fn written<K: Sink>(out: &mut K, text: &[u8]) -> Status
     }
 }
 
+/// The line of a run that came to its end.
+fn end_line<'a>(status: &Status, printed: &'a Printed) -> &'a [u8]
+    requires plain { has_plain_line status.now ≡ true }
+    requires line { printed.now.line ≡ (if printed.now.stopped then stopped_text printed.now.rewrites else []) }
+    ensures { result.now ≡ report_line (reported status.now printed.now) }
+{
+    match status {
+        Status::Ok => printed.line.as_slice(),
+        Status::Usage
+        | Status::ReadFault(_)
+        | Status::WriteFault
+        | Status::RuleRefused(_)
+        | Status::ShaderSyntax(_)
+        | Status::ShaderInvalid { .. }
+        | Status::TooLong(_)
+        | Status::OutOfMemory
+        | Status::NotBuilt => plain_line(USAGE, status),
+    }
+}
+
+fn is_ok(status: &Status) -> bool
+    ensures { result ≡ is_ok status.now }
+{
+    matches!(status, Status::Ok)
+}
+
 /// Writes the text of a run that came to its end, and reports it. The line of the report goes to `notes`.
 pub fn finished<K: Sink, N: Sink>(
     out: &mut K,
@@ -107,18 +133,14 @@ pub fn finished<K: Sink, N: Sink>(
     ensures notes { (hears : Bool) × Hears (N.taken notes.old) (N.taken notes.new) (N.faults notes.old) (N.faults notes.new) (report_line result) heard hears }
 {
     let status = written(out, printed.text.as_slice());
-    let whole = matches!(status, Status::Ok);
-    let _hears = if whole {
-        note(notes, heard, printed.line.as_slice())
-    } else {
-        note(notes, heard, plain_line(USAGE, &status))
-    };
+    let _hears = note(notes, heard, end_line(&status, &printed));
+    let stopped = is_ok(&status) && printed.stopped;
     Report {
         status,
         journal: printed.journal,
         rewrites: printed.rewrites,
         limit: printed.limit,
-        stopped: whole && printed.stopped,
+        stopped,
         place: 0,
     }
 }

@@ -1,20 +1,19 @@
 //! The texts of the two sources, read to their ends: the rules, and the shader.
 
-ghost use Rattle.std.specs.Prelude.{◌≡◌, ℕ, ◌≤◌, true, false, List, length, Ok, Some, IfOk, IfErr, OnOk};
+ghost use Rattle.std.specs.Prelude.{◌≡◌, ℕ, ◌≤◌, true, false, List, [], length, Some, IfOk, IfErr, OnOk};
 ghost use Rattle.nir_host.specs.Faults.{Rose};
 ghost use Rattle.nir_mean.specs.ShaderText.{ReadsToEnd};
 ghost use Rattle.nir_validate.specs.Valid.{Valid};
-ghost use Rattle.rule_read.specs.Reads.{rules_of_text};
 ghost use Rattle.nir_opt.specs.Asked.{judged, rules_answer, shader_answer};
 ghost use Rattle.rule_check.specs.Accepted.{refusals};
-ghost use Rattle.nir_opt.specs.Texts.{CheckedFits, EndsRules, EndsShader, FileFits, ReadFits};
+ghost use Rattle.nir_opt.specs.Texts.{CheckedFits, EndsReading, EndsRules, EndsShader, FileFits, ReadFits};
 
 use crate::status::Status;
 use nir_host::{ReadAllFault, Source, Which, read_all};
 use nir_ir::Shader;
 use nir_mean::{ShaderRefusal, read_shader_bytes, valid_shader};
 use rule_check::{CheckFault, Checked, RefusedList, check_file, check_file_skipping};
-use rule_read::{RuleFault, RuleFile, read_rules};
+use rule_read::{RuleFile, read_rules};
 use std::alloc::Global;
 
 /// How many bytes of rules are read.
@@ -24,7 +23,7 @@ const MAX_RULES: u64 = 67_108_864;
 pub fn read_file<R: Source>(alloc: Global, rules: &mut R) -> Result<RuleFile, Status>
     ensures text { (text : List ℕ) → R.left rules.old ≡ Some text → FileFits result (rules_answer true text) }
     ensures end { OnOk result (ReadsToEnd (R.left rules.old) (R.left rules.new)) }
-    ensures stop { IfErr result (λ status. EndsRules status (Rose (R.faults rules.old) (R.faults rules.new))) }
+    ensures stop { IfErr result (λ status. EndsReading status (Rose (R.faults rules.old) (R.faults rules.new))) }
 {
     match read_all(alloc, rules, MAX_RULES) {
         Ok(text) => file_of_text(alloc, text.as_slice()),
@@ -35,21 +34,23 @@ pub fn read_file<R: Source>(alloc: Global, rules: &mut R) -> Result<RuleFile, St
 }
 
 /// The rule file of a text that was read to its end.
+#[tactic(auto, using(crate::proofs::TextAnswers::file_found, crate::proofs::TextAnswers::file_missing))]
 fn file_of_text(alloc: Global, text: &[u8]) -> Result<RuleFile, Status>
     requires { length text.now ≤ 67108864 }
     ensures text { FileFits result (rules_answer true text.now) }
-    ensures stop { IfErr result (λ status. EndsRules status ⊥) }
+    ensures stop { IfErr result (λ status. EndsReading status ⊥) }
 {
     match read_rules(alloc, text) {
-        Ok(file) => Ok(file),
-        Err(RuleFault::OutOfMemory) => Err(Status::OutOfMemory),
-        Err(fault) => Err(Status::RulesSyntax(fault)),
+        Ok(Some(file)) => Ok(file),
+        Ok(None) => Err(Status::NotBuilt),
+        Err(_no_memory) => Err(Status::OutOfMemory),
     }
 }
 
 /// The table of the rules of a file that are accepted, and the others, which there may be where rules are skipped.
 pub fn check_rules(alloc: Global, file: RuleFile, skip: bool) -> Result<Checked, Status>
     ensures fits { CheckedFits result (judged skip file (refusals file.entries)) }
+    ensures off { IfOk result (λ checked. skip ≡ false → checked.refused ≡ []) }
     ensures stop { IfErr result (λ status. EndsRules status ⊥) }
 {
     if skip {
@@ -72,11 +73,14 @@ pub fn check_rules(alloc: Global, file: RuleFile, skip: bool) -> Result<Checked,
 /// skipped, told.
 pub fn read_table<R: Source>(alloc: Global, rules: &mut R, skip: bool) -> Result<Checked, Status>
     ensures text { (text : List ℕ) → R.left rules.old ≡ Some text → CheckedFits result (rules_answer skip text) }
+    ensures off { IfOk result (λ checked. skip ≡ false → checked.refused ≡ []) }
     ensures end { OnOk result (ReadsToEnd (R.left rules.old) (R.left rules.new)) }
     ensures stop { IfErr result (λ status. EndsRules status (Rose (R.faults rules.old) (R.faults rules.new))) }
 {
-    let file = read_file(alloc, rules)?;
-    check_rules(alloc, file, skip)
+    match read_file(alloc, rules) {
+        Ok(file) => check_rules(alloc, file, skip),
+        Err(status) => Err(status),
+    }
 }
 
 /// Reads the shader to its end, and finds it valid. A text defines at most 16,384 values.

@@ -1,8 +1,8 @@
 -- Where a rule matches at a number, the number is that of a value, and so the shader is not settled.
-use Rattle.std.specs.Prelude.{◌≡◌, refl, ℕ, Bool, true, false, List, [], ◌∷◌, Some, ◌||◌, is_none, nat_eq}
+use Rattle.std.specs.Prelude.{◌≡◌, refl, ℕ, Bool, true, false, List, [], ◌∷◌, Option, Some, None, ◌||◌, ◌&&◌, is_none, is_some, nat_eq}
 use Rattle.std.proofs.Common.{◌∙◌, ap, subst, sym}
-use Rattle.std.proofs.lemmas.Bool.{and_false_left, and_false_right}
-use Rattle.std.proofs.lemmas.Bool.Decides.{nat_tests}
+use Rattle.std.proofs.lemmas.Bool.{eqb-true, false≢true}
+use Rattle.std.proofs.Math.Bool.{and-false}
 use Rattle.std.specs.List.{list_all, list_any}
 use Rattle.edit_laws.specs.ItemsLaws.{value_defined}
 use Rattle.nir_ir.specs.declared.ids.ValueId.{ValueId}
@@ -20,12 +20,14 @@ use Rattle.rule_meaning.specs.Hits.{matched}
 use Rattle.rule_meaning.specs.StepSame.{formed_at}
 
 -- what fails for one of the numbers does not hold for all
+one_fails : (f : ℕ → Bool) (n m : ℕ) (some all test : Bool) → nat_eq n m ≡ test → (test || some) ≡ true → f n ≡ false → (some ≡ true → all ≡ false) → (f m && all) ≡ false
+one_fails f n m some all true is one fails behind = ap (λ b. b && all) (ap f (sym (eqb-true n m is)) ∙ fails)
+one_fails f n m some all false is one fails behind = ap (λ b. f m && b) (behind one) ∙ and-false (f m)
+
 not_all : (f : ℕ → Bool) (n : ℕ) (numbers : List ℕ) → list_any (nat_eq n) numbers ≡ true → f n ≡ false → list_all f numbers ≡ false
-not_all f n [] one fails = cc
-not_all f n (m ∷ numbers) one fails = by_test (nat_eq n m) refl where
-  by_test : (test : Bool) → nat_eq n m ≡ test → list_all f (m ∷ numbers) ≡ false
-  by_test true is = grind (nat_tests, is, fails)
-  by_test false is = grind (not_all f n numbers, is, one, fails)
+not_all f n [] one fails = absurd (false≢true one)
+not_all f n (m ∷ numbers) one fails =
+    one_fails f n m (list_any (nat_eq n) numbers) (list_all f numbers) (nat_eq n m) refl one fails (λ some. not_all f n numbers some fails)
 
 pub unsettled : (options : Options) (table : List Rule) (s : Shader) → IsShaped s → AllFormed table → (n : ℕ) (hit : Hit)
     → first_hit options table s.body (record { 0 = n }) ≡ Some hit → is_settled options table s ≡ false
@@ -34,3 +36,11 @@ unsettled options table s shaped formed n hit found =
     let there = matched s shaped from.rule (formed_at table from.distance from.rule formed from.at) hit.variant (record { 0 = n }) hit.subst from.matches_there in
     let defined = value_defined (record { 0 = n }) _ s.body there.root.instr.is in
     not_all (λ v. is_none (first_hit options table s.body (record { 0 = v }))) n (values_defined s.body) defined (ap is_none found)
+
+-- the same, where something is found
+pub unsettled_where : (options : Options) (table : List Rule) (s : Shader) → IsShaped s → AllFormed table → (n : ℕ)
+    → is_some (first_hit options table s.body (record { 0 = n })) ≡ true → is_settled options table s ≡ false
+unsettled_where options table s shaped formed n some = by_hit (first_hit options table s.body (record { 0 = n })) refl some where
+  by_hit : (found : Option Hit) → first_hit options table s.body (record { 0 = n }) ≡ found → is_some found ≡ true → is_settled options table s ≡ false
+  by_hit None is some = absurd (false≢true some)
+  by_hit (Some hit) is some = unsettled options table s shaped formed n hit is

@@ -1,10 +1,10 @@
 //! The words with which a shader is optimised.
 
-ghost use Rattle.std.specs.Prelude.{◌≡◌, IfOk, None, Some, false, true};
+ghost use Rattle.std.specs.Prelude.{◌≡◌, IfOk, IfSome, None, Some, false, true};
 ghost use Rattle.std.specs.Option.{option_map, option_and_then};
 ghost use Rattle.run_words.specs.RunWords.{all_said, also, begins_with_dashes, is_rules_alone, limited, named, nothing_said, run_words, said};
 ghost use Rattle.eval_words.specs.EvalWords.{decimal_of};
-ghost use Rattle.run_words.specs.Views.{given, meant};
+ghost use Rattle.run_words.specs.Views.{given, meant, IsFew, SaysFew};
 
 use arrayvec::ArrayVec;
 use eval_words::decimal;
@@ -41,7 +41,8 @@ pub struct RunWords<'a> {
 
 /// A limit on rewrites.
 fn limited(text: &[u8]) -> Option<Said<'_>>
-    ensures { option_map meant result ≡ option_and_then limited (decimal_of text.now) }
+    ensures value { option_map meant result ≡ option_and_then limited (decimal_of text.now) }
+    ensures few { IfSome result SaysFew }
 {
     let number = decimal(text)?;
     if number > MOST_REWRITES {
@@ -52,7 +53,8 @@ fn limited(text: &[u8]) -> Option<Said<'_>>
 
 /// An option of this name.
 fn named(text: &[u8]) -> Option<Said<'_>>
-    ensures { option_map meant result ≡ named text.now }
+    ensures value { option_map meant result ≡ named text.now }
+    ensures few { IfSome result SaysFew }
 {
     if !is_word(text) {
         return None;
@@ -63,7 +65,8 @@ fn named(text: &[u8]) -> Option<Said<'_>>
 /// What a word says, None where it has no reading.
 #[tactic(auto, unfolding(crate::specs::RunWords::said))]
 fn said_by(word: &[u8]) -> Option<Said<'_>>
-    ensures { option_map meant result ≡ said word.now }
+    ensures value { option_map meant result ≡ said word.now }
+    ensures few { IfSome result SaysFew }
 {
     if word.starts_with(b"--limit=") {
         return limited(&word[8..]);
@@ -83,7 +86,8 @@ fn said_by(word: &[u8]) -> Option<Said<'_>>
 impl<'a> RunWords<'a> {
     /// Nothing is said. This takes no memory.
     fn new() -> RunWords<'a>
-        ensures { given result ≡ nothing_said }
+        ensures value { given result ≡ nothing_said }
+        ensures few { IsFew result }
     {
         RunWords {
             limit: None,
@@ -97,6 +101,7 @@ impl<'a> RunWords<'a> {
     fn also(&mut self, one: Said<'a>) -> bool
         ensures goes { result ≡ true → also (given self.old) (meant one.entry) ≡ Some (given self.new) }
         ensures stops { result ≡ false → also (given self.old) (meant one.entry) ≡ None }
+        ensures few { IsFew self.old → SaysFew one.entry → IsFew self.new }
     {
         match one {
             Said::Limit(number) => {
@@ -138,7 +143,8 @@ impl<'a> RunWords<'a> {
 
 /// What all of these words say, None where one has no reading or may not be said.
 fn all_said<'a>(words: &'a [Bytes]) -> Option<RunWords<'a>>
-    ensures { option_map given result ≡ all_said nothing_said words.now }
+    ensures value { option_map given result ≡ all_said nothing_said words.now }
+    ensures few { IfSome result IsFew }
 {
     let mut so_far = RunWords::new();
     for word in words {
@@ -161,7 +167,8 @@ fn begins_with_dashes(word: &Bytes) -> bool
 /// None where a word has no reading, or one but `--option=NAME` stands twice. This takes no memory.
 #[tactic(auto, unfolding(crate::specs::RunWords::run_words))]
 pub fn run_words<'a>(words: &'a [Bytes]) -> Option<RunWords<'a>>
-    ensures { option_map given result ≡ run_words words.now }
+    ensures value { option_map given result ≡ run_words words.now }
+    ensures few { IfSome result IsFew }
 {
     match words {
         [] => None,

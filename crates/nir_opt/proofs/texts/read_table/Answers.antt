@@ -1,23 +1,18 @@
-use Rattle.std.proofs.Common.{List, ℕ, Some, ap, ◌∙◌, subst, arith}
-use Rattle.nir_opt.specs.FirstRules.{first_rules}
-use Rattle.nir_opt.specs.Texts.{TableFits}
-use Rattle.rule_term.specs.Table.{Table}
-use Rattle.nir_mean.specs.ShaderText.{ReadsToEnd}
-use Rattle.nir_opt.specs.declared.status.Status.{Status}
-use Rattle.nir_opt.proofs.TextAnswers.{first_rules-long, longer, on_ok}
+use Rattle.std.proofs.Common.{subst, sym}
+use Rattle.nir_host.specs.Faults.{Rose}
+use Rattle.nir_opt.specs.Texts.{CheckedFits}
+use Rattle.nir_opt.proofs.TextAnswers.{fits_however, reads_as_rules, rules-judged}
 use Rattle.nir_opt.proofs.texts.read_table.Goals as goal
 
-pub returns-in-Err-TooLong-clause-text : goal.returns-in-Err-TooLong-clause-text
-returns-in-Err-TooLong-clause-text g c = λ text told.
-    let r = c.in-Err-TooLong.ensures.told text told in
-    first_rules-long text (omega (arith, longer text r.taken r.rest 67108864 r.parts (r.too_long.0 (cc))))
+pub returns-in-Err-clause-text : goal.returns-in-Err-clause-text
+returns-in-Err-clause-text g c = λ text told.
+    let fault : Type 0 = Rose (g.R.Source.faults c.args.rules.now) (g.R.Source.faults c.read_file.new.rules) in
+    fits_however c.args.skip text c.in-Err.status fault (reads_as_rules c.in-Err.status fault c.in-Err.ensures.stop) (c.in-Err.ensures.text text told)
+
+pub returns-in-Err-clause-stop : goal.returns-in-Err-clause-stop
+returns-in-Err-clause-stop g c =
+    reads_as_rules c.in-Err.status (Rose (g.R.Source.faults c.args.rules.now) (g.R.Source.faults c.read_file.new.rules)) c.in-Err.ensures.stop
 
 pub returns-in-Ok-clause-text : goal.returns-in-Ok-clause-text
 returns-in-Ok-clause-text g c = λ text told.
-    let r = c.in-Ok.ensures.told text told in
-    subst (λ (t : List ℕ). TableFits c.table_of.result (first_rules t)) (c.as_slice.ensures ∙ r.all) c.table_of.ensures.text
-
-pub returns-in-Ok-clause-end : goal.returns-in-Ok-clause-end
-returns-in-Ok-clause-end g c =
-    on_ok Table Status (ReadsToEnd (g.R.Source.left c.args.rules.now) (g.R.Source.left c.read_all.new.src)) c.table_of.result
-    (λ text told. let r = c.in-Ok.ensures.told text told in r.now_left ∙ ap (λ (rest : List ℕ). Some rest) r.spent)
+    subst (CheckedFits c.check_rules.result) (sym (rules-judged c.args.skip text c.in-Ok.file (c.in-Ok.ensures.text text told))) c.check_rules.ensures.fits
