@@ -1,3 +1,4 @@
+pub mod FileWeights
 pub mod Refusals
 pub mod Trials
 pub mod Walks

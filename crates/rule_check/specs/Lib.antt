@@ -1,4 +1,5 @@
 pub mod Accepted
+pub mod Answers
 pub mod Cases
 pub mod CasesLaws
 pub mod Verdicts
