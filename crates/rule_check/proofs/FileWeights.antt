@@ -17,11 +17,6 @@ weights-drop lines zero weighed = weighed
 weights-drop [] (suc k) weighed = tt
 weights-drop (line ∷ rest) (suc k) weighed = weights-drop rest k weighed.3
 
--- what is asked of the line at a place and of those behind it
-pub weights-at : (lines : List WeightLine) (k : ℕ) (line : WeightLine) → k < length lines → line ≡ get_or lines k line → AreWeights lines → AreWeights (line ∷ drop (k + 1) lines)
-weights-at lines k line within at weighed =
-    subst (λ l. AreWeights (l ∷ drop (k + 1) lines)) (sym at) (subst AreWeights (drop_more lines k line within) (weights-drop lines k weighed))
-
 pub not_mov : (o : Op) → is_mov o ≡ false → o ≢ Mov
 not_mov o ordinary same = false≢true (sym ordinary ∙ ap is_mov same)
 
@@ -47,3 +42,13 @@ weights-set line rest before after others set kept o = ⊎_elim
     ap (λ w. weight_or rest w o) (kept o differ)
     ∙ sym (ap (λ b. cond b line.weight (weight_or rest (before o) o)) e))
     (cases_Bool (sameb op.the_type line.op o))
+
+-- what is asked of the line at a place, and the weights where it is set
+pub asked-at : (lines : List WeightLine) (k : ℕ) (d : WeightLine) → k < length lines → AreWeights lines → AreWeights (get_or lines k d ∷ drop (k + 1) lines)
+asked-at lines k d within weighed = subst AreWeights (drop_more lines k d within) (weights-drop lines k weighed)
+
+pub weights-step : (lines : List WeightLine) (k : ℕ) (d : WeightLine) (before after : Op → ℕ) → k < length lines → AreWeights lines → after (get_or lines k d).op ≡ (get_or lines k d).weight
+    → ((other : Op) → other ≢ (get_or lines k d).op → after other ≡ before other) → (o : Op) → weight_or (drop (k + 1) lines) (after o) o ≡ weight_or (drop k lines) (before o) o
+weights-step lines k d before after within weighed set kept o =
+    weights-set (get_or lines k d) (drop (k + 1) lines) before after (asked-at lines k d within weighed).2 set kept o
+    ∙ ap (λ l. weight_or l (before o) o) (sym (drop_more lines k d within))

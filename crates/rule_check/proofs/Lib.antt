@@ -1,3 +1,4 @@
+pub mod EvidenceLemmas
 pub mod FileWeights
 pub mod Refusals
 pub mod Trials

@@ -91,9 +91,9 @@ accepted entries = rules_of (filter accepts entries)
 
 -- the weight of an opcode by these lines, or this one where none names it
 abbrev pub weight_or : List WeightLine → ℕ → Op → ℕ
-weight_or [] weight op = weight
-weight_or (line ∷ rest) weight op = cond (sameb op.the_type line.op op) line.weight (weight_or rest weight op)
+weight_or [] weight o = weight
+weight_or (line ∷ rest) weight o = cond (sameb op.the_type line.op o) line.weight (weight_or rest weight o)
 
 -- the weight of an opcode in a file
 abbrev pub weight_in : List WeightLine → Op → ℕ
-weight_in weights op = weight_or weights (initial_weight op) op
+weight_in weights o = weight_or weights (initial_weight o) o

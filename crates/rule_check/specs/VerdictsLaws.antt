@@ -220,10 +220,17 @@ accepted_hold entry formed none =
 
 first_bad : (entry : Entry) (refused : Refused) → size_fault entry.rule ≡ None → BadAmong entry 0 (typings entry.rule) refused → IsRefusal entry refused
 first_bad entry refused sizes bad =
-    subst (IsRefusal entry) (sym bad.is)
+    let e : 0 + bad.place ≡ bad.place = omega arith in
+    subst (IsRefusal entry) (sym (bad.is ∙ ap (λ n. refused_at entry n bad.cause) e))
     (record {
       rule = refl;
-      cause = record { sizes = sizes; widths = bad.widths; at = bad.at; bad = bad.bad; before = bad.before };
+      cause = record {
+        sizes = sizes;
+        widths = bad.widths;
+        at = bad.at;
+        bad = subst (λ n. IsBad entry.rule bad.widths (chosen_line n entry.lines) bad.cause) e bad.bad;
+        before = λ k widths less at. subst (λ n. IsGood entry.rule widths (chosen_line n entry.lines)) (let f : 0 + k ≡ k = omega arith in f) (bad.before k widths less at);
+      };
     })
 
 refused_case : (entry : Entry) (fault : Option SizeFault) (refused : Refused) → fault ≡ size_fault entry.rule → IsFormed entry.rule → refused_for entry fault ≡ Some refused → IsRefusal entry refused

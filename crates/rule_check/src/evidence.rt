@@ -1,8 +1,9 @@
 //! The evidence of a rule, typing by typing.
 
-ghost use Rattle.std.specs.Prelude.{◌≡◌, ◌≤◌, true, length, IfOk};
+ghost use Rattle.std.specs.Prelude.{◌≡◌, ◌≤◌, true, length, find, IfOk, Some};
 ghost use Rattle.std.specs.List.{All};
-ghost use Rattle.std.specs.Option.{option_copied};
+ghost use Rattle.std.specs.Option.{option_map};
+ghost use Rattle.rule_check.specs.Lines.{is_for, kind_of};
 ghost use Rattle.rule_term.specs.Formed.{IsFormed};
 ghost use Rattle.rule_term.specs.Typings.{is_typing};
 ghost use Rattle.size_infer.specs.Grown.{all_widths_of};
@@ -17,8 +18,20 @@ use rule_term::{Rule, Typing};
 use size_infer::{SizeFault, typings};
 use std::alloc::Global;
 
+/// What stands in a line of evidence, so far as it is looked at.
+#[derive(Clone, Copy, Debug)]
+enum Kind {
+    /// The trial of all cases.
+    Cases,
+    /// A derivation or a log.
+    Unchecked,
+    /// There is no line.
+    Missing,
+}
+
 /// Why the rule is not accepted, None where it is: the fault of its sizes, else the first typing without good evidence.
 /// What memory it takes is free again at the end, but for the values that it answers.
+#[tactic(auto, using(crate::proofs::EvidenceLemmas::told_by_evidence, crate::proofs::EvidenceLemmas::told_by_size))]
 pub(crate) fn refusal_of(alloc: Global, entry: &Entry) -> Result<Option<Refused>, OutOfMemory>
     ensures value { IfOk result (λ refused. refused ≡ refusal_of entry.now) }
     ensures formed { IsFormed entry.now.rule }
@@ -54,14 +67,15 @@ fn refused_among(alloc: Global, entry: &Entry, list: &[Typing]) -> Result<Option
 }
 
 /// What is wrong with the evidence at the typing of the number.
+#[tactic(auto, using(crate::proofs::EvidenceLemmas::by_cases, crate::proofs::EvidenceLemmas::by_unchecked, crate::proofs::EvidenceLemmas::by_missing), unfolding(crate::specs::Accepted::cause_at))]
 fn cause_at(alloc: Global, entry: &Entry, number: u32, typing: &Typing) -> Result<Option<RuleCause>, OutOfMemory>
     requires { is_typing entry.now.rule typing.now.widths ≡ true }
     ensures { IfOk result (λ cause. cause ≡ cause_at entry.now number typing.now.widths) }
 {
-    match chosen_line(entry.lines.as_slice(), number) {
-        Some(Proof::Cases) => cause_of_trial(alloc, &entry.rule, typing),
-        Some(Proof::Derive(_)) | Some(Proof::Logged(_)) => Ok(Some(RuleCause::NotBuilt)),
-        None => Ok(Some(RuleCause::NoEvidence)),
+    match kind_chosen(entry.lines.as_slice(), number) {
+        Kind::Cases => cause_of_trial(alloc, &entry.rule, typing),
+        Kind::Unchecked => Ok(Some(RuleCause::NotBuilt)),
+        Kind::Missing => Ok(Some(RuleCause::NoEvidence)),
     }
 }
 
@@ -77,13 +91,49 @@ fn cause_of_trial(alloc: Global, rule: &Rule, typing: &Typing) -> Result<Option<
     }
 }
 
-/// The evidence for the typing of the number: the first line for it alone, else the first for all typings.
-fn chosen_line(lines: &[Line], number: u32) -> Option<&Proof>
-    ensures { option_copied result ≡ chosen_line number lines.now }
+/// The evidence at the typing of the number: the first line for it alone, else the first for all typings.
+#[tactic(auto, using(crate::proofs::EvidenceLemmas::kind_missing, crate::proofs::EvidenceLemmas::kind_cases, crate::proofs::EvidenceLemmas::kind_unchecked))]
+fn kind_chosen(lines: &[Line], number: u32) -> Kind
+    ensures { result ≡ kind_of (chosen_line number lines.now) }
 {
-    let own = lines.iter().find(|line| line.typing == Some(number));
-    let chosen = own.or_else(|| lines.iter().find(|line| line.typing.is_none()));
-    chosen.map(|line| &line.proof)
+    match first_by(lines, Some(number)) {
+        Kind::Missing => first_by(lines, None),
+        Kind::Cases => Kind::Cases,
+        Kind::Unchecked => Kind::Unchecked,
+    }
+}
+
+/// The evidence of the first line for this typing, or for all typings.
+fn first_by(lines: &[Line], typing: Option<u32>) -> Kind
+    ensures { result ≡ kind_of (option_map (λ line. line.proof) (find (is_for typing) lines.now)) }
+{
+    for line in lines {
+        if is_for(line, typing) {
+            return kind_of(&line.proof);
+        }
+    }
+    Kind::Missing
+}
+
+/// Whether the line is for this typing, or for all.
+fn is_for(line: &Line, typing: Option<u32>) -> bool
+    ensures { result ≡ is_for typing line.now }
+{
+    match (line.typing, typing) {
+        (Some(own), Some(sought)) => own == sought,
+        (None, None) => true,
+        (Some(_), None) | (None, Some(_)) => false,
+    }
+}
+
+fn kind_of(proof: &Proof) -> Kind
+    ensures { result ≡ kind_of (Some proof.now) }
+{
+    match proof {
+        Proof::Cases => Kind::Cases,
+        Proof::Derive(_) => Kind::Unchecked,
+        Proof::Logged(_) => Kind::Unchecked,
+    }
 }
 
 /// The refusal for a fault of the sizes.

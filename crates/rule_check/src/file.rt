@@ -1,6 +1,7 @@
 //! Rule files: which rules are accepted.
 
-ghost use Rattle.std.specs.Prelude.{◌≡◌, [], None, IfOk};
+ghost use Rattle.std.specs.Prelude.{◌≡◌, ◌≢◌, ◌≤◌, [], IfOk};
+ghost use Rattle.nir_ops.specs.declared.op.Op.TheVariants.{Mov};
 ghost use Rattle.nir_ops.specs.declared.op.Op.{Op as Opcode};
 ghost use Rattle.rule_term.specs.Table.{op_weight};
 ghost use Rattle.rule_read.specs.RuleFile.{AreWeights};
@@ -45,12 +46,16 @@ pub fn check_file_skipping(alloc: Global, file: RuleFile) -> Result<Checked, Out
 {
     let mut table = weighed(alloc, file.weights.as_slice());
     let mut refused = RefusedList::new(alloc);
-    for entry in file.entries.into_vec() {
+    let entries = file.entries.into_vec();
+    for entry in entries {
         match refusal_of(alloc, &entry)? {
             Some(one) => refused.push(one)?,
             None => {
-                let Entry { rule, lines: _ } = entry;
-                table.add(rule)?;
+                let Entry {
+                    rule: accepted,
+                    lines: _,
+                } = entry;
+                table.add(accepted)?;
             }
         }
     }
@@ -65,9 +70,20 @@ fn weighed(alloc: Global, weights: &[WeightLine]) -> Table
 {
     let mut table = Table::new(alloc);
     for line in weights {
-        table.set_weight(line.op, line.weight);
+        set_line(&mut table, line);
     }
     table
+}
+
+/// Gives the opcode of the line its weight.
+fn set_line(table: &mut Table, line: &WeightLine)
+    requires ordinary { line.now.op ≢ Mov }
+    requires few { line.now.weight ≤ 60 }
+    ensures set { op_weight table.new line.now.op ≡ line.now.weight }
+    ensures others { (other : Opcode) → other ≢ line.now.op → op_weight table.new other ≡ op_weight table.old other }
+    ensures rules { table.new.rules ≡ table.old.rules }
+{
+    table.set_weight(line.op, line.weight);
 }
 
 /// A verdict means what it is to mean (`specs/Verdicts.antt`).
