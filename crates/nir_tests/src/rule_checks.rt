@@ -146,7 +146,8 @@ const ONE_SIZE: &str = "[((iadd, 'a@8', 0), a)]";
 const EACH_SIZE: &str = "[((iadd, a, 0), a)]";
 
 /// Five rules, of which two are accepted: each keeps its number.
-const FIVE: &str = "[((iand, 'a@8', 3), 0), by * cases, ((iadd, 'a@8', 0), a), by * cases, ((iadd, 'a@1', 0), a), \
+const FIVE: &str =
+    "[((iand, 'a@8', 3), 0), by * cases, ((iadd, 'a@8', 0), a), by * cases, ((iadd, 'a@1', 0), a), \
 ((isub, 'a@8', a), 0), by * cases, ((isub, 'a@8', b), a), by * cases]";
 
 /// The numbers of the rules of a table.
@@ -256,8 +257,7 @@ fn refused_rules_are_left_out(rt: HostRuntime) -> Result<(), Fail> {
         out.push_str("; ")?;
         show_refused(&mut out, refused)?;
     }
-    assert_eq!(
-        rt;
+    assert_eq!(rt;
         out.as_str(),
         "accepted: 1 3; rule 0 typing 0: differ at 1; rule 2: no typing; rule 4 typing 0: differ at 0 1"
     );

@@ -41,14 +41,21 @@ pub(crate) fn refusal_of(alloc: Global, entry: &Entry) -> Result<Option<Refused>
     match typings(alloc, &entry.rule) {
         Ok(list) => refused_among(alloc, entry, list.as_slice()),
         Err(SizeFault::Contradiction) => Ok(Some(refused_by_size(entry, SizeFault::Contradiction))),
-        Err(SizeFault::Ambiguous(node)) => Ok(Some(refused_by_size(entry, SizeFault::Ambiguous(node)))),
+        Err(SizeFault::Ambiguous(node)) => Ok(Some(refused_by_size(
+            entry,
+            SizeFault::Ambiguous(node),
+        ))),
         Err(SizeFault::TooMany) => Ok(Some(refused_by_size(entry, SizeFault::TooMany))),
         Err(SizeFault::OutOfMemory) => Err(OutOfMemory),
     }
 }
 
 /// The first of the typings without good evidence.
-fn refused_among(alloc: Global, entry: &Entry, list: &[Typing]) -> Result<Option<Refused>, OutOfMemory>
+fn refused_among(
+    alloc: Global,
+    entry: &Entry,
+    list: &[Typing],
+) -> Result<Option<Refused>, OutOfMemory>
     requires each { All (λ typing. is_typing entry.now.rule typing.widths ≡ true) list.now }
     requires few { length list.now ≤ 64 }
     ensures { IfOk result (λ refused. refused ≡ refused_among entry.now 0 (all_widths_of list.now)) }
@@ -68,7 +75,12 @@ fn refused_among(alloc: Global, entry: &Entry, list: &[Typing]) -> Result<Option
 
 /// What is wrong with the evidence at the typing of the number.
 #[tactic(auto, using(crate::proofs::EvidenceLemmas::by_cases, crate::proofs::EvidenceLemmas::by_unchecked, crate::proofs::EvidenceLemmas::by_missing), unfolding(crate::specs::Accepted::cause_at))]
-fn cause_at(alloc: Global, entry: &Entry, number: u32, typing: &Typing) -> Result<Option<RuleCause>, OutOfMemory>
+fn cause_at(
+    alloc: Global,
+    entry: &Entry,
+    number: u32,
+    typing: &Typing,
+) -> Result<Option<RuleCause>, OutOfMemory>
     requires { is_typing entry.now.rule typing.now.widths ≡ true }
     ensures { IfOk result (λ cause. cause ≡ cause_at entry.now number typing.now.widths) }
 {
@@ -80,7 +92,11 @@ fn cause_at(alloc: Global, entry: &Entry, number: u32, typing: &Typing) -> Resul
 }
 
 /// What the trial of all cases finds wrong at the typing.
-fn cause_of_trial(alloc: Global, rule: &Rule, typing: &Typing) -> Result<Option<RuleCause>, OutOfMemory>
+fn cause_of_trial(
+    alloc: Global,
+    rule: &Rule,
+    typing: &Typing,
+) -> Result<Option<RuleCause>, OutOfMemory>
     requires { is_typing rule.now typing.now.widths ≡ true }
     ensures { IfOk result (λ cause. cause ≡ cause_of_trial (trial_of rule.now typing.now.widths)) }
 {
