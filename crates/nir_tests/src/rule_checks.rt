@@ -1,53 +1,174 @@
-//! Texts of rules, and what checking them answers.
+//! Texts of rules, and what checking them answers: all of them at once, and with what is not accepted left out.
 
-use rule_check::{CheckFault, Refused, RuleCause, check_file, is_ready};
-use rule_read::read_rules;
+use rule_check::{CheckFault, Refused, RuleCause, check_file, check_file_skipping};
+use rule_read::{Derivation, Line, Lines, Proof, RuleFile, read_rules};
+use rule_term::Table;
+use size_infer::SizeFault;
 use std::alloc::{AllocError, Global};
 use std::fmt::Write;
 use std::test::Fail;
 
 /// Texts of rules, and what checking them answers.
 static CHECKED: &[(&str, &str)] = &[
-    ("[]", "0 accepted"),
-    ("[((iadd, 'a@8', 0), a), by * cases]", "1 accepted"),
-    (
-        "[((iand, 'a@8', b), (iand, b, a)), by * cases]",
-        "1 accepted",
-    ),
+    ("[]", "accepted:"),
+    ("[((iadd, 'a@8', 0), a), by * cases]", "accepted: 0"),
     (
         "[((iadd, 'a@8', 0), a), by * cases, ((isub, 'a@8', a), 0), by * cases, ((iand, 'b@8', (inot, b)), 0), by * cases]",
-        "3 accepted",
+        "accepted: 0 1 2",
     ),
+    // The first difference counts, and the first rule.
     (
-        "[((isub, 'a@8', b), a), by * cases]",
-        "rule 0 typing 0: the sides differ at 0 1",
+        "[((isub, 'a@8', b), (isub, b, a)), by * cases]",
+        "rule 0 typing 0: differ at 0 1",
     ),
     (
         "[((iadd, 'a@8', 0), a), by * cases, ((iand, 'a@8', 3), 0), by * cases, ((isub, 'a@8', b), a), by * cases]",
-        "rule 1 typing 0: the sides differ at 1",
-    ),
-    (
-        "[((iand, 'a@8(is_unsigned_multiple_of_4)', 3), 0), by * cases]",
-        "1 accepted",
+        "rule 1 typing 0: differ at 1",
     ),
     (
         "[((umin, (iand, 'a@8', b), 254), (iand, a, b)), by * cases]",
-        "rule 0 typing 0: the sides differ at 255 255",
+        "rule 0 typing 0: differ at 255 255",
     ),
+    // Only values that meet the conditions count.
     (
-        "[((iadd, 'a@8', (iadd, b, c)), (iadd, b, (iadd, a, c))), by * cases]",
+        "[((iand, 'a@8(is_unsigned_multiple_of_4)', 3), 0), by * cases]",
+        "accepted: 0",
+    ),
+    // 16 bits are tried, and 17 are not.
+    (
+        "[((iand, 'a@8', 'b@8'), (iand, b, a)), by * cases]",
+        "accepted: 0",
+    ),
+    ("[((isub, 'a@16', a), 0), by * cases]", "accepted: 0"),
+    (
+        "[((bcsel, 'c@1', 'a@8', 'b@8'), (bcsel, (inot, c), b, a)), by * cases]",
         "rule 0 typing 0: too many cases",
     ),
-    ("[((iadd, a, 0), a), by * cases]", "not ready"),
-    ("[((iadd, 'a@16', 0), a), by * cases]", "not ready"),
-    ("[((ishl, 'a@8', 0), a), by * cases]", "not ready"),
-    ("[((iadd, 'a@8', 256), a), by * cases]", "not ready"),
-    ("[((iadd, 'a@8', 0), a)]", "not ready"),
+    // Variables of different sizes.
+    ("[((bcsel, 'a@1', 'b@8', b), b), by * cases]", "accepted: 0"),
     (
-        "[((iadd, 'a@8', 0), a), by * cases, by * cases]",
-        "not ready",
+        "[((bcsel, 'a@1', 'b@8', 0), b), by * cases]",
+        "rule 0 typing 0: differ at 0 1",
+    ),
+    // Each typing has to have evidence.
+    (
+        "[((iand, a, 1), a), by * cases]",
+        "rule 0 typing 1: differ at 2",
+    ),
+    (
+        "[((iadd, a, 0), a), by * cases]",
+        "rule 0 typing 2: too many cases",
+    ),
+    ("[((iadd, a, 0), a)]", "rule 0 typing 0: no evidence"),
+    // Faults of sizes come before all others.
+    ("[((iadd, 'a@1', 0), a)]", "rule 0: no typing"),
+    (
+        "[((iadd, 'a@8', 0), (iadd, a, (u2u8, 0)))]",
+        "rule 0: node 3 has no size",
+    ),
+    (
+        "[((iand, (ieq, a, b), (iand, (ieq, c, d), (ieq, e, f))), (iand, (ieq, b, a), (iand, (ieq, c, d), (ieq, e, f))))]",
+        "rule 0: too many typings",
     ),
 ];
+
+/// A text of one rule, its evidence, and what checking them answers.
+type Row = (&'static str, &'static [(Option<u32>, Given)], &'static str);
+
+/// Evidence: the trial of all cases, or a derivation of no steps.
+#[derive(Clone, Copy)]
+enum Given {
+    Cases,
+    Derive,
+}
+
+/// Which line is chosen at each typing.
+static CHOSEN: &[Row] = &[
+    (ONE_SIZE, &[(Some(0), Given::Cases)], "accepted: 0"),
+    (
+        ONE_SIZE,
+        &[(Some(1), Given::Cases)],
+        "rule 0 typing 0: no evidence",
+    ),
+    (
+        ONE_SIZE,
+        &[(None, Given::Derive)],
+        "rule 0 typing 0: not built",
+    ),
+    // A line for the typing goes before one for all, wherever it stands.
+    (
+        ONE_SIZE,
+        &[(None, Given::Derive), (Some(0), Given::Cases)],
+        "accepted: 0",
+    ),
+    (
+        ONE_SIZE,
+        &[(Some(0), Given::Derive), (None, Given::Cases)],
+        "rule 0 typing 0: not built",
+    ),
+    (
+        ONE_SIZE,
+        &[(None, Given::Cases), (Some(0), Given::Derive)],
+        "rule 0 typing 0: not built",
+    ),
+    // Of lines for the same, the first.
+    (
+        ONE_SIZE,
+        &[(Some(0), Given::Cases), (Some(0), Given::Derive)],
+        "accepted: 0",
+    ),
+    (
+        ONE_SIZE,
+        &[(None, Given::Derive), (None, Given::Cases)],
+        "rule 0 typing 0: not built",
+    ),
+    // The first typing without good evidence.
+    (
+        EACH_SIZE,
+        &[(Some(0), Given::Cases)],
+        "rule 0 typing 1: no evidence",
+    ),
+    (
+        EACH_SIZE,
+        &[(Some(1), Given::Derive), (None, Given::Cases)],
+        "rule 0 typing 1: not built",
+    ),
+    (
+        EACH_SIZE,
+        &[(Some(2), Given::Derive), (None, Given::Cases)],
+        "rule 0 typing 2: not built",
+    ),
+];
+
+const ONE_SIZE: &str = "[((iadd, 'a@8', 0), a)]";
+
+/// Typings 0 to 3, with 8, 16, 32 and 64 bits.
+const EACH_SIZE: &str = "[((iadd, a, 0), a)]";
+
+/// Five rules, of which two are accepted: each keeps its number.
+const FIVE: &str =
+    "[((iand, 'a@8', 3), 0), by * cases, ((iadd, 'a@8', 0), a), by * cases, ((iadd, 'a@1', 0), a), \
+((isub, 'a@8', a), 0), by * cases, ((isub, 'a@8', b), a), by * cases]";
+
+/// The numbers of the rules of a table.
+fn show_table(out: &mut String, table: &Table) -> Result<(), AllocError> {
+    out.push_str("accepted:")?;
+    let mut place = 0u32;
+    while u64::from(place) < table.len() && place < 9 {
+        write!(out, " {}", table.rule(place).number)?;
+        place += 1;
+    }
+    Ok(())
+}
+
+fn show_fault(out: &mut String, fault: SizeFault) -> Result<(), AllocError> {
+    match fault {
+        SizeFault::Contradiction => out.push_str("no typing"),
+        SizeFault::Ambiguous(node) => write!(out, "node {node} has no size"),
+        SizeFault::TooMany => out.push_str("too many typings"),
+        SizeFault::OutOfMemory => out.push_str("out of memory"),
+    }
+}
 
 /// The refusal in words.
 fn show_refused(out: &mut String, refused: &Refused) -> Result<(), AllocError> {
@@ -55,28 +176,27 @@ fn show_refused(out: &mut String, refused: &Refused) -> Result<(), AllocError> {
     if let Some(typing) = refused.typing {
         write!(out, " typing {typing}")?;
     }
+    out.push_str(": ")?;
     match &refused.cause {
+        RuleCause::Size(fault) => show_fault(out, *fault),
+        RuleCause::NoEvidence => out.push_str("no evidence"),
         RuleCause::Cases(values) => {
-            out.push_str(": the sides differ at")?;
+            out.push_str("differ at")?;
             for value in values.as_slice() {
                 write!(out, " {value}")?;
             }
             Ok(())
         }
-        RuleCause::TooManyCases => out.push_str(": too many cases"),
+        RuleCause::TooManyCases => out.push_str("too many cases"),
+        RuleCause::NotBuilt => out.push_str("not built"),
     }
 }
 
-/// What checking a text answers, in words.
-fn verdict(alloc: Global, text: &str) -> Result<String, Fail> {
+/// What checking a file answers, in words.
+fn verdict(alloc: Global, file: RuleFile) -> Result<String, AllocError> {
     let mut out = String::new(alloc);
-    let file = read_rules(alloc, text.as_bytes())?.ok_or("a reading")?;
-    if !is_ready(&file) {
-        out.push_str("not ready")?;
-        return Ok(out);
-    }
     match check_file(alloc, file) {
-        Ok(table) => write!(out, "{} accepted", table.len())?,
+        Ok(table) => show_table(&mut out, &table)?,
         Err(CheckFault::Refused(refused)) => show_refused(&mut out, &refused)?,
         Err(CheckFault::OutOfMemory) => out.push_str("out of memory")?,
     }
@@ -86,8 +206,60 @@ fn verdict(alloc: Global, text: &str) -> Result<String, Fail> {
 #[test]
 fn rules_are_accepted_or_refused(rt: HostRuntime) -> Result<(), Fail> {
     for &(text, wanted) in CHECKED {
-        let shown = verdict(rt.alloc(), text)?;
+        let file = read_rules(rt.alloc(), text.as_bytes())?.ok_or("a reading")?;
+        let shown = verdict(rt.alloc(), file)?;
         assert_eq!(rt; shown.as_str(), wanted, "{text}");
     }
+    Ok(())
+}
+
+/// The lines of evidence.
+fn lines_of(alloc: Global, given: &[(Option<u32>, Given)]) -> Result<Lines, Fail> {
+    let mut lines = Lines::new(alloc);
+    for &(typing, given) in given {
+        let proof = match given {
+            Given::Cases => Proof::Cases,
+            Given::Derive => Proof::Derive(Derivation::new(alloc)),
+        };
+        lines.push(Line { typing, proof })?;
+    }
+    Ok(lines)
+}
+
+/// The rule of the text, with other evidence.
+fn with_lines(alloc: Global, text: &str, lines: Lines) -> Result<RuleFile, Fail> {
+    let mut file = read_rules(alloc, text.as_bytes())?.ok_or("a reading")?;
+    if file.entries.len() != 1 {
+        return Err("one rule".into());
+    }
+    file.entries.at_mut(0).lines = lines;
+    Ok(file)
+}
+
+#[test]
+fn a_line_for_the_typing_goes_first(rt: HostRuntime) -> Result<(), Fail> {
+    for &(text, given, wanted) in CHOSEN {
+        let lines = lines_of(rt.alloc(), given)?;
+        let file = with_lines(rt.alloc(), text, lines)?;
+        let shown = verdict(rt.alloc(), file)?;
+        assert_eq!(rt; shown.as_str(), wanted, "{text}");
+    }
+    Ok(())
+}
+
+#[test]
+fn refused_rules_are_left_out(rt: HostRuntime) -> Result<(), Fail> {
+    let file = read_rules(rt.alloc(), FIVE.as_bytes())?.ok_or("a reading")?;
+    let checked = check_file_skipping(rt.alloc(), file)?;
+    let mut out = String::new(rt.alloc());
+    show_table(&mut out, &checked.table)?;
+    for refused in checked.refused.as_slice() {
+        out.push_str("; ")?;
+        show_refused(&mut out, refused)?;
+    }
+    assert_eq!(rt;
+        out.as_str(),
+        "accepted: 1 3; rule 0 typing 0: differ at 1; rule 2: no typing; rule 4 typing 0: differ at 0 1"
+    );
     Ok(())
 }

@@ -1,3 +1,5 @@
+pub mod EvidenceLemmas
+pub mod FileWeights
 pub mod Refusals
 pub mod Trials
 pub mod Walks

@@ -1,60 +1,19 @@
--- What a trial tells of a rule, and how the first refusal is found along the entries of a file.
-use Rattle.std.proofs.Common.{◌≡◌, ◌+◌, ◌<◌, ℕ, zero, suc, true, Option, Some, None, List, [], ◌∷◌, ◌++◌, length, take, drop, get_or, refl, sym, ◌∙◌, ap, subst, arith}
-use Rattle.std.specs.List.{AllByRecursion, list_all}
-use Rattle.std.specs.Option.{option_map, option_or}
-use Rattle.std.proofs.lemmas.List.{at_drop_more, take_more, take-append-drop, map-append}
-use Rattle.std.proofs.lemmas.List.Sums.{AllPass-from_list_all}
+-- What a loop over the entries of a file has met, entry by entry.
+use Rattle.std.proofs.Common.{◌≡◌, ◌+◌, ◌<◌, ℕ, zero, suc, Bool, true, false, cond, Option, Some, None, List, [], ◌∷◌, ◌++◌, length, drop, take, get_or, filter, is_none, option_to_list, refl, sym, ◌∙◌, ap, subst, arith}
+use Rattle.std.specs.List.{AllByRecursion}
+use Rattle.std.proofs.lemmas.List.{at_drop_more, take_more, take-append-drop}
 use Rattle.rule_term.specs.Rule.{Rule}
-use Rattle.rule_term.specs.Formed.{IsFormed}
-use Rattle.rule_term.specs.EightBit.{is_eight_bit, all_eight}
-use Rattle.rule_term.specs.EightBitLaws.{eight_holds}
-use Rattle.rule_term.specs.Holds.{Holds}
 use Rattle.rule_term.specs.Table.{AllBelow}
 use Rattle.rule_read.specs.declared.entry.Entry.{Entry}
 use Rattle.rule_read.specs.RuleFile.{AreNumbered}
-use Rattle.rule_check.specs.declared.cases.Trial.{Trial}
-use Rattle.rule_check.specs.declared.cases.Trial.TheVariants.{Equal}
-use Rattle.rule_check.specs.declared.refused.RuleCause.{RuleCause}
 use Rattle.rule_check.specs.declared.refused.Refused.{Refused}
-use Rattle.rule_check.specs.Accepted.{stands_at_eight, cause_of_trial, cause_of, refused_for, refused, refusal_of, rules_of}
-use Rattle.rule_check.specs.Cases.{trial_of}
-use Rattle.rule_check.specs.Verdicts.{IsEqualAtEight, IsFirstRefused}
-use Rattle.rule_check.specs.VerdictsLaws.{accepted_is_equal, cause_is}
-use Rattle.rule_check.specs.CasesLaws.{equal_from_trial}
+use Rattle.rule_check.specs.Accepted.{accepted, accepts, refusal_of, refusals, rules_of}
 
--- the trial at all 8 bits tells the cause
-pub cause-tried : (rule : Rule) (widths : _) (trial : Trial) → widths ≡ all_eight rule → trial ≡ trial_of rule widths → cause_of_trial trial ≡ cause_of rule
-unfolding cause_of
-cause-tried rule widths trial eight tried = ap cause_of_trial (tried ∙ ap (trial_of rule) eight)
+-- the entry at a place of a list
+abbrev pub IsAt : List Entry → ℕ → Entry → Type 0
+IsAt entries k entry = (k < length entries) × (entry ≡ get_or entries k entry)
 
-pub holds-tried : (rule : Rule) (widths : _) → IsFormed rule → is_eight_bit rule ≡ true → widths ≡ all_eight rule → Equal ≡ trial_of rule widths → Holds rule
-holds-tried rule widths formed eight sizes tried = eight_holds rule formed eight (equal_from_trial rule formed (all_eight rule) (sym (tried ∙ ap (trial_of rule) sizes)))
-
--- an accepted rule is not the first that is refused
-pub refusal-past : (entries : List Entry) (k : ℕ) (entry : Entry) → (k < length entries) × (entry ≡ get_or entries k entry) → cause_of entry.rule ≡ None → refusal_of (drop (k + 1) entries) ≡ refusal_of (drop k entries)
-refusal-past entries k entry at none =
-    let behind : Option Refused = refusal_of (drop (k + 1) entries) in
-    sym (at_drop_more refusal_of entries k entry at.0
-    ∙ ap (λ e. option_or (refused e.rule) behind) (sym at.1)
-    ∙ ap (λ cause. option_or (option_map (refused_for entry.rule) cause) behind) none)
-
-pub refusal-here : (entries : List Entry) (k : ℕ) (entry : Entry) (cause : RuleCause) → (k < length entries) × (entry ≡ get_or entries k entry) → cause_of entry.rule ≡ Some cause → refusal_of (drop k entries) ≡ Some (refused_for entry.rule cause)
-refusal-here entries k entry cause at some =
-    let behind : Option Refused = refusal_of (drop (k + 1) entries) in
-    at_drop_more refusal_of entries k entry at.0
-    ∙ ap (λ e. option_or (refused e.rule) behind) (sym at.1)
-    ∙ ap (λ cause. option_or (option_map (refused_for entry.rule) cause) behind) some
-
-pub rules-take : (entries : List Entry) (k : ℕ) (entry : Entry) → (k < length entries) × (entry ≡ get_or entries k entry) → rules_of (take (k + 1) entries) ≡ rules_of (take k entries) ++ entry.rule ∷ []
-rules-take entries k entry at =
-    ap rules_of (take_more entries k entry at.0)
-    ∙ map-append (λ e. e.rule) (take k entries) (get_or entries k entry ∷ [])
-    ∙ ap (λ (e : Entry). rules_of (take k entries) ++ e.rule ∷ []) (sym at.1)
-
-pub eight-at : (entries : List Entry) (k : ℕ) (entry : Entry) → (k < length entries) × (entry ≡ get_or entries k entry) → list_all stands_at_eight entries ≡ true → is_eight_bit entry.rule ≡ true
-eight-at entries k entry at all = ap stands_at_eight at.1 ∙ AllPass-from_list_all stands_at_eight entries all k entry at.0
-
-pub number-at : (entries : List Entry) (from k : ℕ) (entry : Entry) → (k < length entries) × (entry ≡ get_or entries k entry) → AreNumbered from entries → entry.rule.number ≡ from + k
+pub number-at : (entries : List Entry) (from k : ℕ) (entry : Entry) → IsAt entries k entry → AreNumbered from entries → entry.rule.number ≡ from + k
 number-at [] from k entry at numbered = absurd (omega (arith, at.0))
 number-at (first ∷ rest) from zero entry at numbered =
     let here : entry.rule.number ≡ from = ap (λ (e : Entry). e.rule.number) at.1 ∙ numbered.0 in
@@ -67,25 +26,46 @@ pub below-more : (table : List Rule) (rule : Rule) (k : ℕ) → AllBelow k tabl
 below-more [] rule k below number = (omega (arith, number), tt)
 below-more (first ∷ rest) rule k below number = (omega (arith, below.0), below-more rest rule k below.1 number)
 
-equal-last : (entries : List Entry) (entry : Entry) → AllByRecursion IsEqualAtEight entries → IsEqualAtEight entry → AllByRecursion IsEqualAtEight (entries ++ entry ∷ [])
-equal-last [] entry equal last = (last, tt)
-equal-last (first ∷ rest) entry equal last = (equal.0, equal-last rest entry equal.1 last)
+pub below-next : (table : List Rule) (k : ℕ) → AllBelow k table → AllBelow (k + 1) table
+below-next [] k below = tt
+below-next (first ∷ rest) k below = (omega (arith, below.0), below-next rest k below.1)
 
--- one more rule has equal sides
-pub equal-more : (entries : List Entry) (k : ℕ) (entry : Entry) → (k < length entries) × (entry ≡ get_or entries k entry) → IsFormed entry.rule → cause_of entry.rule ≡ None → AllByRecursion IsEqualAtEight (take k entries) → AllByRecursion IsEqualAtEight (take (k + 1) entries)
-equal-more entries k entry at formed none equal =
-    subst (AllByRecursion IsEqualAtEight) (sym (take_more entries k entry at.0 ∙ ap (λ e. take k entries ++ e ∷ []) (sym at.1)))
-    (equal-last (take k entries) entry equal (accepted_is_equal entry.rule formed none))
+-- the refusals, the accepted rules and all rules from a place on
+pub refusals-at : (entries : List Entry) (k : ℕ) (entry : Entry) → IsAt entries k entry → refusals (drop k entries) ≡ option_to_list (refusal_of entry) ++ refusals (drop (k + 1) entries)
+refusals-at entries k entry at = at_drop_more refusals entries k entry at.0 ∙ ap (λ e. option_to_list (refusal_of e) ++ refusals (drop (k + 1) entries)) (sym at.1)
 
--- the refusal of a rule behind such ones
-pub refused-at : (entries : List Entry) (k : ℕ) (entry : Entry) (cause : RuleCause) → (k < length entries) × (entry ≡ get_or entries k entry) → IsFormed entry.rule → is_eight_bit entry.rule ≡ true → cause_of entry.rule ≡ Some cause → AllByRecursion IsEqualAtEight (take k entries) → IsFirstRefused entries (refused_for entry.rule cause)
-refused-at entries k entry cause at formed eight some equal = record {
-  before = take k entries;
-  entry = entry;
-  behind = drop (k + 1) entries;
-  placed = sym (take-append-drop k entries) ∙ ap (λ l. take k entries ++ l) (at_drop_more (λ l. l) entries k entry at.0 ∙ ap (λ e. e ∷ drop (k + 1) entries) (sym at.1));
-  equal = equal;
-  rule = refl;
-  typing = refl;
-  cause = cause_is entry.rule formed eight cause some;
-}
+pub refusals-past : (entries : List Entry) (k : ℕ) (entry : Entry) → IsAt entries k entry → refusal_of entry ≡ None → refusals (drop k entries) ≡ refusals (drop (k + 1) entries)
+refusals-past entries k entry at none = refusals-at entries k entry at ∙ ap (λ r. option_to_list r ++ refusals (drop (k + 1) entries)) none
+
+pub refusals-here : (entries : List Entry) (k : ℕ) (entry : Entry) (refused : Refused) → IsAt entries k entry → refusal_of entry ≡ Some refused → refusals (drop k entries) ≡ refused ∷ refusals (drop (k + 1) entries)
+refusals-here entries k entry refused at some = refusals-at entries k entry at ∙ ap (λ r. option_to_list r ++ refusals (drop (k + 1) entries)) some
+
+accepted-at : (entries : List Entry) (k : ℕ) (entry : Entry) (refusal : Option Refused) → IsAt entries k entry → refusal_of entry ≡ refusal
+    → accepted (drop k entries) ≡ rules_of (cond (is_none refusal) (entry ∷ filter accepts (drop (k + 1) entries)) (filter accepts (drop (k + 1) entries)))
+accepted-at entries k entry refusal at is =
+    at_drop_more accepted entries k entry at.0
+    ∙ ap (λ e. accepted (e ∷ drop (k + 1) entries)) (sym at.1)
+    ∙ ap (λ r. rules_of (cond (is_none r) (entry ∷ filter accepts (drop (k + 1) entries)) (filter accepts (drop (k + 1) entries)))) is
+
+pub accepted-here : (entries : List Entry) (k : ℕ) (entry : Entry) → IsAt entries k entry → refusal_of entry ≡ None → accepted (drop k entries) ≡ entry.rule ∷ accepted (drop (k + 1) entries)
+accepted-here entries k entry at none = accepted-at entries k entry None at none
+
+pub accepted-past : (entries : List Entry) (k : ℕ) (entry : Entry) (refused : Refused) → IsAt entries k entry → refusal_of entry ≡ Some refused → accepted (drop k entries) ≡ accepted (drop (k + 1) entries)
+accepted-past entries k entry refused at some = accepted-at entries k entry (Some refused) at some
+
+pub rules-at : (entries : List Entry) (k : ℕ) (entry : Entry) → IsAt entries k entry → rules_of (drop k entries) ≡ entry.rule ∷ rules_of (drop (k + 1) entries)
+rules-at entries k entry at = at_drop_more rules_of entries k entry at.0 ∙ ap (λ (e : Entry). e.rule ∷ rules_of (drop (k + 1) entries)) (sym at.1)
+
+-- what is so of the entries before a place and of the one there is so of those before the next
+all-last : (P : Entry → Type 0) (entries : List Entry) (entry : Entry) → AllByRecursion P entries → P entry → AllByRecursion P (entries ++ entry ∷ [])
+all-last P [] entry all last = (last, tt)
+all-last P (first ∷ rest) entry all last = (all.0, all-last P rest entry all.1 last)
+
+pub all-more : (P : Entry → Type 0) (entries : List Entry) (k : ℕ) (entry : Entry) → IsAt entries k entry → P entry → AllByRecursion P (take k entries) → AllByRecursion P (take (k + 1) entries)
+all-more P entries k entry at here all =
+    subst (AllByRecursion P) (sym (take_more entries k entry at.0 ∙ ap (λ e. take k entries ++ e ∷ []) (sym at.1))) (all-last P (take k entries) entry all here)
+
+-- an entry stands between those before it and those behind it
+pub placed-at : (entries : List Entry) (k : ℕ) (entry : Entry) → IsAt entries k entry → entries ≡ take k entries ++ entry ∷ drop (k + 1) entries
+placed-at entries k entry at =
+    sym (take-append-drop k entries) ∙ ap (λ l. take k entries ++ l) (at_drop_more (λ l. l) entries k entry at.0 ∙ ap (λ e. e ∷ drop (k + 1) entries) (sym at.1))

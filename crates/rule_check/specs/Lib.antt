@@ -1,5 +1,7 @@
 pub mod Accepted
+pub mod Answers
 pub mod Cases
+pub mod Lines
 pub mod CasesLaws
 pub mod Verdicts
 pub mod VerdictsLaws

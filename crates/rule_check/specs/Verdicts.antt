@@ -1,6 +1,6 @@
--- What a verdict on a rule file means: the sides of an accepted rule are equal at 8 bits, and the first refused rule is told with the least values at which its sides differ.
-use Rattle.std.specs.Prelude.{◌≡◌, ◌<◌, ℕ, true, None, Some, List, ◌∷◌, ◌++◌, length, Result, Ok, Err}
-use Rattle.std.specs.List.{AllByRecursion, list_all}
+-- What a verdict means: an accepted rule holds, and a refused one has exactly the fault that is told.
+use Rattle.std.specs.Prelude.{◌≡◌, ◌<◌, ◌≤◌, ℕ, true, Option, None, Some, List, ◌∷◌, ◌++◌, length, slice_get, Result, Ok, Err}
+use Rattle.std.specs.List.{AllByRecursion}
 use Rattle.std.specs.Cmp.Lexicographic.{slice_cmp}
 use Rattle.std.specs.Ordering.{nat_cmp}
 use Rattle.std.specs.declared.cmp.Ordering.TheVariants.{Less}
@@ -8,16 +8,18 @@ use Rattle.nir_ops.specs.declared.width.Width.{Width}
 use Rattle.rule_term.specs.Rule.{Rule}
 use Rattle.rule_term.specs.Table.{Table}
 use Rattle.rule_term.specs.Formed.{IsFormed}
-use Rattle.rule_term.specs.EightBit.{all_eight}
-use Rattle.rule_term.specs.Typings.{search_part, replace_part}
-use Rattle.rule_term.specs.Holds.{values_of, are_words, are_met, EqualAt}
+use Rattle.rule_term.specs.Typings.{search_part, replace_part, typings}
+use Rattle.rule_term.specs.Holds.{values_of, are_words, are_met, EqualAt, Holds}
+use Rattle.size_infer.specs.SizeFaults.{IsSizeFault, size_fault}
 use Rattle.rule_read.specs.declared.entry.Entry.{Entry}
+use Rattle.rule_read.specs.declared.entry.Proof.{Proof}
+use Rattle.rule_read.specs.declared.entry.Proof.TheVariants as proof
 use Rattle.rule_check.specs.declared.refused.RuleCause.{RuleCause}
-use Rattle.rule_check.specs.declared.refused.RuleCause.TheVariants.{Cases, TooManyCases}
+use Rattle.rule_check.specs.declared.refused.RuleCause.TheVariants as cause
 use Rattle.rule_check.specs.declared.refused.Refused.{Refused}
 use Rattle.rule_check.specs.declared.refused.CheckFault.{CheckFault}
 use Rattle.rule_check.specs.declared.refused.CheckFault.TheVariants as fault
-use Rattle.rule_check.specs.Accepted.{stands_at_eight, refusal_of}
+use Rattle.rule_check.specs.Accepted.{chosen_line, refusal_of}
 use Rattle.rule_check.specs.Cases.{free_bits}
 
 -- both sides have one value where the variables have these values
@@ -36,39 +38,80 @@ pub record IsFirstDifference (rule : Rule) (widths : List Width) (values : List 
   pub differ : AreEqualAt rule widths values → ⊥
   pub first : (others : List ℕ) → MayStand rule widths others → slice_cmp nat_cmp others values ≡ Less → AreEqualAt rule widths others
 
-abbrev pub IsCause : Rule → RuleCause → Type 0
-IsCause rule (Cases values) = IsFirstDifference rule (all_eight rule) values
-IsCause rule TooManyCases = 16 < free_bits rule (all_eight rule)
+-- the evidence is the trial of all cases, or is not checked yet
+abbrev pub IsTrial : Option Proof → Type 0
+IsTrial None = ⊥
+IsTrial (Some proof.Cases) = Unit {0}
+IsTrial (Some (proof.Derive steps)) = ⊥
+IsTrial (Some (proof.Logged log)) = ⊥
 
-abbrev pub IsEqualAtEight : Entry → Type 0
-IsEqualAtEight entry = EqualAt entry.rule (all_eight entry.rule)
+abbrev pub IsUnchecked : Option Proof → Type 0
+IsUnchecked None = ⊥
+IsUnchecked (Some proof.Cases) = ⊥
+IsUnchecked (Some (proof.Derive steps)) = Unit {0}
+IsUnchecked (Some (proof.Logged log)) = Unit {0}
 
--- a rule of these entries is refused, and all rules before it have equal sides
+-- the evidence at a typing is good: all cases can be tried, and the sides are equal
+pub record IsGood (rule : Rule) (widths : List Width) (evidence : Option Proof) : Type 0 where
+  pub trial : IsTrial evidence
+  pub few : free_bits rule widths ≤ 16
+  pub equal : EqualAt rule widths
+
+-- it is not, for this cause
+abbrev pub IsBad : Rule → List Width → Option Proof → RuleCause → Type 0
+IsBad rule widths evidence (cause.Size fault) = ⊥
+IsBad rule widths evidence cause.NoEvidence = evidence ≡ None
+IsBad rule widths evidence (cause.Cases values) = IsTrial evidence × (free_bits rule widths ≤ 16) × IsFirstDifference rule widths values
+IsBad rule widths evidence cause.TooManyCases = IsTrial evidence × (16 < free_bits rule widths)
+IsBad rule widths evidence cause.NotBuilt = IsUnchecked evidence
+
+-- each typing before this one has good evidence
+abbrev pub AreGoodBefore : Entry → ℕ → Type 0
+AreGoodBefore entry number = (k : ℕ) (widths : List Width) → k < number → slice_get (typings entry.rule) k ≡ Some widths → IsGood entry.rule widths (chosen_line k entry.lines)
+
+-- the first typing without good evidence
+pub record IsFirstBad (entry : Entry) (number : ℕ) (cause : RuleCause) : Type 0 where
+  pub sizes : size_fault entry.rule ≡ None
+  pub widths : List Width
+  pub at : slice_get (typings entry.rule) number ≡ Some widths
+  pub bad : IsBad entry.rule widths (chosen_line number entry.lines) cause
+  pub before : AreGoodBefore entry number
+
+abbrev pub HasHolding : Entry → Type 0
+HasHolding entry = Holds entry.rule
+
+-- the cause is the fault of the sizes, or that of the first typing without good evidence
+abbrev pub IsCause : Entry → Option ℕ → RuleCause → Type 0
+IsCause entry None (cause.Size fault) = IsSizeFault entry.rule fault
+IsCause entry None cause.NoEvidence = ⊥
+IsCause entry None (cause.Cases values) = ⊥
+IsCause entry None cause.TooManyCases = ⊥
+IsCause entry None cause.NotBuilt = ⊥
+IsCause entry (Some number) cause = IsFirstBad entry number cause
+
+pub record IsRefusal (entry : Entry) (refused : Refused) : Type 0 where
+  pub rule : refused.rule ≡ entry.rule.number
+  pub cause : IsCause entry refused.typing refused.cause
+
+-- a rule of these entries is refused, and all rules before it hold
 pub record IsFirstRefused (entries : List Entry) (refused : Refused) : Type 0 where
   pub before : List Entry
   pub entry : Entry
   pub behind : List Entry
   pub placed : entries ≡ before ++ entry ∷ behind
-  pub equal : AllByRecursion IsEqualAtEight before
-  pub rule : refused.rule ≡ entry.rule.number
-  pub typing : refused.typing ≡ Some 0
-  pub cause : IsCause entry.rule refused.cause
+  pub hold : AllByRecursion HasHolding before
+  pub refusal : IsRefusal entry refused
 
 -- what the answer for these entries tells of their rules
 abbrev pub IsJust : List Entry → Result Table CheckFault → Type 0
-IsJust entries (Ok table) = AllByRecursion IsEqualAtEight entries
+IsJust entries (Ok table) = AllByRecursion HasHolding entries
 IsJust entries (Err (fault.Refused refused)) = IsFirstRefused entries refused
 IsJust entries (Err fault.OutOfMemory) = Unit {0}
 
-abbrev pub HasFormed : Entry → Type 0
-HasFormed entry = IsFormed entry.rule
+-- an accepted rule holds
+abbrev pub AcceptedHold : Type 0
+AcceptedHold = (entry : Entry) → IsFormed entry.rule → refusal_of entry ≡ None → Holds entry.rule
 
--- where no rule is refused, each rule has equal sides
-abbrev pub AcceptedAreEqual : Type 0
-AcceptedAreEqual =
-    (entries : List Entry) → AllByRecursion HasFormed entries → refusal_of entries ≡ None → AllByRecursion IsEqualAtEight entries
-
--- where a rule is refused, it is the first that has no equal sides, or too many cases
-abbrev pub RefusedIsFirst : Type 0
-RefusedIsFirst =
-    (entries : List Entry) (refused : Refused) → AllByRecursion HasFormed entries → list_all stands_at_eight entries ≡ true → refusal_of entries ≡ Some refused → IsFirstRefused entries refused
+-- what is told of a refused rule is so
+abbrev pub RefusedAreJust : Type 0
+RefusedAreJust = (entry : Entry) (refused : Refused) → IsFormed entry.rule → refusal_of entry ≡ Some refused → IsRefusal entry refused

@@ -1,32 +1,37 @@
 -- A verdict means what it is to mean.
-use Rattle.std.specs.Prelude.{◌≡◌, refl, ◌+◌, ◌*◌, ◌/◌, ◌%◌, ◌^◌, ◌<◌, ◌≤◌, ℕ, Bool, true, false, not, ◌&&◌, Option, Some, None, List, [], ◌∷◌, sum, length, nat_eq, nat_lt, ◌⊎◌, cond}
-use Rattle.std.specs.List.{list_all}
+use Rattle.std.specs.Prelude.{◌≡◌, refl, ◌+◌, ◌-◌, ◌*◌, ◌/◌, ◌%◌, ◌^◌, ◌<◌, ◌≤◌, ℕ, zero, suc, Bool, true, false, not, ◌&&◌, Option, Some, None, List, [], ◌∷◌, sum, length, nat_eq, nat_lt, slice_get, ◌⊎◌, cond}
+use Rattle.std.specs.List.{AllByRecursion}
 use Rattle.std.specs.Option.{option_map, option_or}
 use Rattle.std.specs.Cmp.Lexicographic.{pointwise, bytes_decides, slice_cmp}
 use Rattle.std.specs.Ordering.{nat_cmp, ordering_then}
 use Rattle.std.specs.declared.cmp.Ordering.{Ordering}
 use Rattle.std.specs.declared.cmp.Ordering.TheVariants.{Less, Equal, Greater}
 use Rattle.std.proofs.Common.{sym, ◌∙◌, ap, subst, ⊎_elim, inl, inr, arith}
-use Rattle.std.proofs.lemmas.Bool.{and_parts, ltb-true, not-true, not-false, both_ways}
+use Rattle.std.proofs.lemmas.Bool.{and_parts, cases_Bool, ltb-true, ltb-false, not-true, not-false, both_ways}
 use Rattle.std.proofs.lemmas.Nat.{pow_pos, mul-add-lt, mod_below}
 use Rattle.std.proofs.lemmas.Cmp.{ranked}
 use Rattle.std.proofs.Math.Nat.{div-add-mod, mul_comm}
 use Rattle.nir_ops.specs.declared.width.Width.{Width}
 use Rattle.rule_term.specs.Rule.{Rule}
 use Rattle.rule_term.specs.Formed.{IsFormed}
-use Rattle.rule_term.specs.EightBit.{is_eight_bit, all_eight}
-use Rattle.rule_term.specs.EightBitLaws.{eight_is_typing}
-use Rattle.rule_term.specs.Typings.{is_typing, search_part, replace_part}
-use Rattle.rule_term.specs.Holds.{values_of, are_words, are_met, EqualAt}
+use Rattle.rule_term.specs.Typings.{is_typing, search_part, replace_part, typings}
+use Rattle.rule_term.specs.Holds.{values_of, are_words, are_met, EqualAt, Holds}
+use Rattle.size_laws.specs.MembersLaws.{all_typings, each_typing}
+use Rattle.size_infer.specs.SizeFaults.{size_fault}
+use Rattle.size_infer.specs.SizeFaultsLaws.{fault_means, none_means}
+use Rattle.size_infer.specs.declared.fault.SizeFault.{SizeFault}
 use Rattle.rule_read.specs.declared.entry.Entry.{Entry}
+use Rattle.rule_read.specs.declared.entry.Proof.{Proof}
+use Rattle.rule_read.specs.declared.entry.Proof.TheVariants as proof
+use Rattle.rule_check.specs.declared.cases.Trial.{Trial}
 use Rattle.rule_check.specs.declared.cases.Trial.TheVariants as trial
 use Rattle.rule_check.specs.declared.refused.RuleCause.{RuleCause}
-use Rattle.rule_check.specs.declared.refused.RuleCause.TheVariants.{Cases, TooManyCases}
+use Rattle.rule_check.specs.declared.refused.RuleCause.TheVariants as cause
 use Rattle.rule_check.specs.declared.refused.Refused.{Refused}
-use Rattle.rule_check.specs.Accepted.{stands_at_eight, cause_of_trial, cause_of, refused_for, refusal_of}
+use Rattle.rule_check.specs.Accepted.{cause_of_trial, cause_by, cause_at, chosen_line, refused_at, refused_by_size, refused_among, refused_for, refusal_of}
 use Rattle.rule_check.specs.Cases.{trial_answer, trial_of, var_bits, free_bits, tuple, tuples, differs_at, first_difference}
 use Rattle.rule_check.specs.CasesLaws.{are_within, number, number_small, tuple-number, within_from_words, tuple_within, words_of_tuple, length-tuple, length-var_bits, find_some, equal_from_none}
-use Rattle.rule_check.specs.Verdicts.{AreEqualAt, IsFirstDifference, IsCause, IsEqualAtEight, IsFirstRefused, AcceptedAreEqual, RefusedIsFirst}
+use Rattle.rule_check.specs.Verdicts.{AreEqualAt, IsFirstDifference, IsTrial, IsGood, IsBad, AreGoodBefore, IsFirstBad, IsCause, IsRefusal, AcceptedHold, RefusedAreJust}
 
 -- the first of two lists that differ has the lesser first item, or the same and a lesser rest
 first_less : (o : Ordering) (x y : ℕ) (rest : Ordering) → o ≡ nat_cmp x y → ordering_then o rest ≡ Less → (x < y) ⊎ ((x ≡ y) × (rest ≡ Less))
@@ -103,72 +108,137 @@ first_from_some rule formed widths values typing found =
           equal_from_same rule widths others stands.met (ap (differs_at rule widths) (sym (tuple-number bits others other)) ∙ at.4 (number bits others) low earlier);
     }
 
--- what is told of the cause of a rule, by the bits and the first difference
-told : (rule : Rule) → IsFormed rule → is_eight_bit rule ≡ true → (many : Bool) (found : Option (List ℕ)) (cause : RuleCause) → many ≡ nat_lt 16 (free_bits rule (all_eight rule)) → found ≡ first_difference rule (all_eight rule) → cause_of_trial (cond many trial.TooMany (trial_answer found)) ≡ Some cause → IsCause rule cause
-told rule formed eight true found (Cases values) large first some = cc
-told rule formed eight true found TooManyCases large first some = ltb-true 16 (free_bits rule (all_eight rule)) (sym large)
-told rule formed eight false None cause large first some = cc
-told rule formed eight false (Some values) TooManyCases large first some = cc
-told rule formed eight false (Some values) (Cases others) large first some =
-    let same : values ≡ others = cc in
-    first_from_some rule formed (all_eight rule) others (eight_is_typing rule formed eight) (sym first ∙ ap Some same)
+-- ---- the evidence at a typing
 
-pub cause_is : (rule : Rule) → IsFormed rule → is_eight_bit rule ≡ true → (cause : RuleCause) → cause_of rule ≡ Some cause → IsCause rule cause
-unfolding cause_of trial_of
-cause_is rule formed eight cause some = told rule formed eight (nat_lt 16 (free_bits rule (all_eight rule))) (first_difference rule (all_eight rule)) cause refl refl some
+-- what the trial finds, by the bits and the first difference
+abbrev Told : Rule → List Width → Option RuleCause → Type 0
+Told rule widths None = (free_bits rule widths ≤ 16) × EqualAt rule widths
+Told rule widths (Some cause) = IsBad rule widths (Some proof.Cases) cause
 
-fine : (many : Bool) (found : Option (List ℕ)) → cause_of_trial (cond many trial.TooMany (trial_answer found)) ≡ None → found ≡ None
-fine true found none = cc
-fine false None none = refl
-fine false (Some values) none = cc
+told : (rule : Rule) → IsFormed rule → (widths : List Width) → is_typing rule widths ≡ true → (many : Bool) (found : Option (List ℕ)) → many ≡ nat_lt 16 (free_bits rule widths)
+    → found ≡ first_difference rule widths → Told rule widths (cause_of_trial (cond many trial.TooMany (trial_answer found)))
+told rule formed widths typing true found large first = (tt, ltb-true 16 (free_bits rule widths) (sym large))
+told rule formed widths typing false None large first = (ltb-false 16 (free_bits rule widths) (sym large), equal_from_none rule formed widths (sym first))
+told rule formed widths typing false (Some values) large first =
+    (tt, ltb-false 16 (free_bits rule widths) (sym large), first_from_some rule formed widths values typing (sym first))
 
-pub accepted_is_equal : (rule : Rule) → IsFormed rule → cause_of rule ≡ None → EqualAt rule (all_eight rule)
-unfolding cause_of trial_of
-accepted_is_equal rule formed none = equal_from_none rule formed (all_eight rule) (fine (nat_lt 16 (free_bits rule (all_eight rule))) (first_difference rule (all_eight rule)) none)
+told_of_trial : (rule : Rule) → IsFormed rule → (widths : List Width) → is_typing rule widths ≡ true → Told rule widths (cause_of_trial (trial_of rule widths))
+unfolding trial_of
+told_of_trial rule formed widths typing = told rule formed widths typing (nat_lt 16 (free_bits rule widths)) (first_difference rule widths) refl refl
 
--- the first of the entries is refused, or a later one
-first_case : (rule : Rule) (cause : Option RuleCause) (rest : Option Refused) → option_or (option_map (refused_for rule) cause) rest ≡ None → (cause ≡ None) × (rest ≡ None)
-first_case rule None rest none = (refl, none)
-first_case rule (Some cause) rest none = cc
+-- the evidence is good where no cause is told, and bad for the cause that is told
+abbrev Judged : Rule → List Width → Option Proof → Option RuleCause → Type 0
+Judged rule widths evidence None = IsGood rule widths evidence
+Judged rule widths evidence (Some cause) = IsBad rule widths evidence cause
 
-pub accepted_are_equal : AcceptedAreEqual
-accepted_are_equal [] formed none = tt
-accepted_are_equal (entry ∷ rest) formed none =
-    let parts = first_case entry.rule (cause_of entry.rule) (refusal_of rest) none in
-    (accepted_is_equal entry.rule formed.0 parts.0, accepted_are_equal rest formed.1 parts.1)
+judged_by_trial : (rule : Rule) (widths : List Width) (found : Option RuleCause) → Told rule widths found → Judged rule widths (Some proof.Cases) found
+judged_by_trial rule widths None told = record { trial = tt; few = told.0; equal = told.1 }
+judged_by_trial rule widths (Some cause) told = told
 
-refused_here : (rule : Rule) (cause : Option RuleCause) (rest : Option Refused) (told : Refused) → option_or (option_map (refused_for rule) cause) rest ≡ Some told
-    → ((why : RuleCause) × (cause ≡ Some why) × (refused_for rule why ≡ told)) ⊎ ((cause ≡ None) × (rest ≡ Some told))
-refused_here rule None rest told some = inr (refl, some)
-refused_here rule (Some cause) rest told some =
-    let same : refused_for rule cause ≡ told = cc in
-    inl (cause, refl, same)
+judged_by : (rule : Rule) → IsFormed rule → (widths : List Width) → is_typing rule widths ≡ true → (evidence : Option Proof) → Judged rule widths evidence (cause_by rule widths evidence)
+judged_by rule formed widths typing None = refl
+judged_by rule formed widths typing (Some proof.Cases) = judged_by_trial rule widths (cause_of_trial (trial_of rule widths)) (told_of_trial rule formed widths typing)
+judged_by rule formed widths typing (Some (proof.Derive steps)) = tt
+judged_by rule formed widths typing (Some (proof.Logged log)) = tt
 
-one_more : (entry : Entry) (rest : List Entry) (told : Refused) → IsEqualAtEight entry → IsFirstRefused rest told → IsFirstRefused (entry ∷ rest) told
-one_more entry rest told equal h = record {
-  before = entry ∷ h.before;
-  entry = h.entry;
-  behind = h.behind;
-  placed = ap (λ l. entry ∷ l) h.placed;
-  equal = (equal, h.equal);
-  rule = h.rule;
-  typing = h.typing;
-  cause = h.cause;
+judged : (entry : Entry) → IsFormed entry.rule → (number : ℕ) (widths : List Width) → is_typing entry.rule widths ≡ true → Judged entry.rule widths (chosen_line number entry.lines) (cause_at entry number widths)
+unfolding cause_at
+judged entry formed number widths typing = judged_by entry.rule formed widths typing (chosen_line number entry.lines)
+
+-- ---- the first typing without good evidence
+
+-- the typings of a list from a number on, each before one has good evidence
+abbrev GoodFrom : Entry → ℕ → List (List Width) → ℕ → Type 0
+GoodFrom entry from list count = (k : ℕ) (widths : List Width) → k < count → slice_get list k ≡ Some widths → IsGood entry.rule widths (chosen_line (from + k) entry.lines)
+
+record BadAmong (entry : Entry) (from : ℕ) (list : List (List Width)) (refused : Refused) : Type 0 where
+  place : ℕ
+  widths : List Width
+  cause : RuleCause
+  is : refused ≡ refused_at entry (from + place) cause
+  at : slice_get list place ≡ Some widths
+  bad : IsBad entry.rule widths (chosen_line (from + place) entry.lines) cause
+  before : GoodFrom entry from list place
+
+abbrev Among : Entry → ℕ → List (List Width) → Option Refused → Type 0
+Among entry from list None = AllByRecursion (EqualAt entry.rule) list
+Among entry from list (Some refused) = BadAmong entry from list refused
+
+good_more : (entry : Entry) (from : ℕ) (widths : List Width) (rest : List (List Width)) (count : ℕ) → IsGood entry.rule widths (chosen_line from entry.lines) → GoodFrom entry (from + 1) rest count → GoodFrom entry from (widths ∷ rest) (suc count)
+good_more entry from widths rest count here behind zero others less at =
+    let same : widths ≡ others = cc in
+    subst (λ w. IsGood entry.rule w (chosen_line (from + 0) entry.lines)) same (subst (λ n. IsGood entry.rule widths (chosen_line n entry.lines)) (let e : from ≡ from + 0 = omega arith in e) here)
+good_more entry from widths rest count here behind (suc k) others less at =
+    subst (λ n. IsGood entry.rule others (chosen_line n entry.lines)) (let e : from + 1 + k ≡ from + suc k = omega arith in e) (behind k others (omega (arith, less)) at)
+
+among_step : (entry : Entry) (from : ℕ) (widths : List Width) (rest : List (List Width)) (here : Option RuleCause) (later : Option Refused) → Judged entry.rule widths (chosen_line from entry.lines) here → Among entry (from + 1) rest later
+    → Among entry from (widths ∷ rest) (option_or (option_map (refused_at entry from) here) later)
+among_step entry from widths rest (Some cause) later bad behind = record {
+  place = 0;
+  widths = widths;
+  cause = cause;
+  is = ap (λ n. refused_at entry n cause) (let e : from ≡ from + 0 = omega arith in e);
+  at = refl;
+  bad = subst (λ n. IsBad entry.rule widths (chosen_line n entry.lines) cause) (let e : from ≡ from + 0 = omega arith in e) bad;
+  before = λ k others less at. absurd (omega (arith, less));
+}
+among_step entry from widths rest None None good behind = (good.equal, behind)
+among_step entry from widths rest None (Some refused) good behind = record {
+  place = suc behind.place;
+  widths = behind.widths;
+  cause = behind.cause;
+  is = behind.is ∙ ap (λ n. refused_at entry n behind.cause) (let e : from + 1 + behind.place ≡ from + suc behind.place = omega arith in e);
+  at = behind.at;
+  bad = subst (λ n. IsBad entry.rule behind.widths (chosen_line n entry.lines) behind.cause) (let e : from + 1 + behind.place ≡ from + suc behind.place = omega arith in e) behind.bad;
+  before = good_more entry from widths rest behind.place good behind.before;
 }
 
-pub refused_is_first : RefusedIsFirst
-refused_is_first [] told formed eight some = cc
-refused_is_first (entry ∷ rest) told formed eight some =
-    let eights = and_parts (is_eight_bit entry.rule) (list_all stands_at_eight rest) eight in
-    ⊎_elim (λ here. record {
-      before = [];
-      entry = entry;
-      behind = rest;
-      placed = refl;
-      equal = tt;
-      rule = ap (λ (r : Refused). r.rule) (sym here.2);
-      typing = ap (λ (r : Refused). r.typing) (sym here.2);
-      cause = subst (λ (r : Refused). IsCause entry.rule r.cause) here.2 (cause_is entry.rule formed.0 eights.0 here.0 here.1);
+among : (entry : Entry) → IsFormed entry.rule → (from : ℕ) (list : List (List Width)) → AllByRecursion (λ widths. is_typing entry.rule widths ≡ true) list → Among entry from list (refused_among entry from list)
+among entry formed from [] all = tt
+among entry formed from (widths ∷ rest) all =
+    among_step entry from widths rest (cause_at entry from widths) (refused_among entry (from + 1) rest) (judged entry formed from widths all.0) (among entry formed (from + 1) rest all.1)
+
+among_typings : (entry : Entry) → IsFormed entry.rule → Among entry 0 (typings entry.rule) (refused_among entry 0 (typings entry.rule))
+among_typings entry formed = among entry formed 0 (typings entry.rule) (all_typings entry.rule (λ widths. is_typing entry.rule widths ≡ true) (λ widths typing. typing))
+
+-- ---- the verdict on a rule
+
+accepted : (entry : Entry) (fault : Option SizeFault) → refused_for entry fault ≡ None → (fault ≡ None) × (refused_among entry 0 (typings entry.rule) ≡ None)
+accepted entry (Some fault) none = cc
+accepted entry None none = (refl, none)
+
+pub accepted_hold : AcceptedHold
+unfolding refusal_of
+accepted_hold entry formed none =
+    let parts = accepted entry (size_fault entry.rule) none in
+    let equal : AllByRecursion (EqualAt entry.rule) (typings entry.rule) = subst (Among entry 0 (typings entry.rule)) parts.1 (among_typings entry formed) in
+    let definite = none_means entry.rule parts.0 in
+    record {
+      unambiguous = λ widths others typing other same. definite widths others typing other same;
+      equal = λ widths typing. each_typing entry.rule (EqualAt entry.rule) equal widths typing;
+    }
+
+first_bad : (entry : Entry) (refused : Refused) → size_fault entry.rule ≡ None → BadAmong entry 0 (typings entry.rule) refused → IsRefusal entry refused
+first_bad entry refused sizes bad =
+    let e : 0 + bad.place ≡ bad.place = omega arith in
+    subst (IsRefusal entry) (sym (bad.is ∙ ap (λ n. refused_at entry n bad.cause) e))
+    (record {
+      rule = refl;
+      cause = record {
+        sizes = sizes;
+        widths = bad.widths;
+        at = bad.at;
+        bad = subst (λ n. IsBad entry.rule bad.widths (chosen_line n entry.lines) bad.cause) e bad.bad;
+        before = λ k widths less at. subst (λ n. IsGood entry.rule widths (chosen_line n entry.lines)) (let f : 0 + k ≡ k = omega arith in f) (bad.before k widths less at);
+      };
     })
-    (λ later. one_more entry rest told (accepted_is_equal entry.rule formed.0 later.0) (refused_is_first rest told formed.1 eights.1 later.1))
-    (refused_here entry.rule (cause_of entry.rule) (refusal_of rest) told some)
+
+refused_case : (entry : Entry) (fault : Option SizeFault) (refused : Refused) → fault ≡ size_fault entry.rule → IsFormed entry.rule → refused_for entry fault ≡ Some refused → IsRefusal entry refused
+refused_case entry (Some fault) refused is formed told =
+    let same : refused_by_size entry fault ≡ refused = cc in
+    subst (IsRefusal entry) same (record { rule = refl; cause = fault_means entry.rule fault (sym is) })
+refused_case entry None refused is formed told = first_bad entry refused (sym is) (subst (Among entry 0 (typings entry.rule)) told (among_typings entry formed))
+
+pub refused_are_just : RefusedAreJust
+unfolding refusal_of
+refused_are_just entry refused formed told = refused_case entry (size_fault entry.rule) refused refl formed told

@@ -1,7 +1,8 @@
-//! Judging the evidence of rules: the trial of all cases.
+//! Judging the evidence of rules: at each typing of a rule the trial of all cases.
 #![tactic(auto)]
 
 mod cases;
+mod evidence;
 mod file;
 mod meets;
 mod refused;
@@ -9,6 +10,6 @@ mod sizes;
 mod values;
 
 pub use cases::{Trial, try_cases};
-pub use file::{check_file, is_ready, verdicts_are_meant};
-pub use refused::{CheckFault, Refused, RuleCause};
+pub use file::{check_file, check_file_skipping, verdicts_are_meant};
+pub use refused::{CheckFault, Checked, Refused, RefusedList, RuleCause};
 pub use values::Values;

@@ -4,23 +4,42 @@ ghost use Rattle.std.specs.Prelude.{◌≡◌};
 ghost use Rattle.rule_check.specs.declared.refused.CheckFault.TheVariants.{OutOfMemory as NoMemory};
 
 use crate::values::Values;
-use nir_host::OutOfMemory;
+use nir_host::{OutOfMemory, Seq};
+use rule_term::Table;
+use size_infer::SizeFault;
 
-/// What is wrong with the evidence of a rule.
+/// What is wrong with a rule or with its evidence.
 #[derive(Debug, Drop)]
 pub enum RuleCause {
+    /// The sizes of the rule are of no use. Want of memory never stands here.
+    Size(SizeFault),
+    /// No line of evidence is for the typing.
+    NoEvidence,
     /// All cases were tried, and these are the first values at which the sides differ.
     Cases(Values),
     /// All cases were to be tried, and the variables have more than 16 bits.
     TooManyCases,
+    /// The evidence is a derivation or a log, which is not checked yet.
+    NotBuilt,
 }
 
-/// A rule that is not accepted: its number, the number of the typing at which its evidence fails, and why.
+/// A rule that is not accepted: its number, the number of the first typing without good evidence, and why. There is no
+/// typing where the cause is in the sizes.
 #[derive(Debug, Drop)]
 pub struct Refused {
     pub rule: u32,
     pub typing: Option<u32>,
     pub cause: RuleCause,
+}
+
+/// Rules that are not accepted, in order.
+pub type RefusedList = Seq<Refused>;
+
+/// The rules of a file that are accepted, and those that are not.
+#[derive(Debug, Drop)]
+pub struct Checked {
+    pub table: Table,
+    pub refused: RefusedList,
 }
 
 /// Why a rule file gives no table.

@@ -3,3 +3,5 @@ pub mod Meant
 pub mod Options
 pub mod Grown
 pub mod FoundFor
+pub mod SizeFaults
+pub mod SizeFaultsLaws

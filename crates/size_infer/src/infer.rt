@@ -4,6 +4,7 @@ ghost use Rattle.std.specs.Prelude.{◌≡◌, ◌<◌, ◌≤◌, ℕ, true, Er
 ghost use Rattle.std.specs.List.{All};
 ghost use Rattle.rule_term.specs.Typings.{is_typing, typings};
 ghost use Rattle.size_infer.specs.Grown.{all_widths_of};
+ghost use Rattle.size_infer.specs.SizeFaults.{TellsFault};
 ghost use Rattle.size_infer.specs.declared.fault.SizeFault.TheVariants.{Ambiguous, Contradiction, TooMany};
 ghost use Rattle.size_laws.specs.Ambiguous.{IsDefinite, IsFirstAmbiguous};
 
@@ -13,7 +14,7 @@ use crate::grow::{Typings, all_lists};
 use rule_term::Rule;
 use std::alloc::Global;
 
-/// All typings of the rule, of which there are 1 to 64. `Contradiction` exactly where there is none; else `Ambiguous` exactly
+/// All typings of the rule, of which there are 1 to 64, or the fault of its sizes (`specs/SizeFaults.antt`). `Contradiction` exactly where there is none; else `Ambiguous` exactly
 /// where two agree on the search side and differ at a node of the replacement, with the first such node; else `TooMany`
 /// exactly where there are more than 64. `OutOfMemory` where there is no memory for them. The time is quadratic in the
 /// number of the rule's nodes, of which there are at most 98.
@@ -27,6 +28,7 @@ pub fn typings(alloc: Global, rule: &Rule) -> Result<Typings, SizeFault>
     ensures ambiguous { (node : ℕ) → result ≡ Err (Ambiguous node) → IsFirstAmbiguous rule.now node }
     ensures too_many { result ≡ Err TooMany → 64 < length (typings rule.now) }
     ensures too_many_definite { result ≡ Err TooMany → IsDefinite rule.now }
+    ensures fault { TellsFault rule.now result }
 {
     let found = found_of(alloc, rule)?;
     let nodes = found.searched + found.replaced;

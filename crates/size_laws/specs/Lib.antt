@@ -12,5 +12,7 @@ pub mod LinksLaws
 pub mod PairsLaws
 pub mod TypingsLaws
 pub mod OutcomesLaws
+pub mod MembersLaws
+pub mod AmbiguousNodeLaws
 pub mod StepsLaws
 pub mod ThensLaws

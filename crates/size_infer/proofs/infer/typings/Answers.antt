@@ -1,5 +1,6 @@
 use Rattle.std.proofs.Common.{◌≡◌, ◌∙◌, sym, subst, arith}
 use Rattle.size_laws.specs.Ambiguous.{IsFirstAmbiguous}
+use Rattle.size_infer.specs.SizeFaultsLaws.{ambiguous_is, contradiction_is, none_is, too_many_is}
 use Rattle.size_infer.proofs.OptionLemmas.{all_typings, as_many, each_typing, few_lists, few_nodes, first_two, found_none, found_one, more_lists, no_two, none_for, some_list}
 use Rattle.size_infer.proofs.infer.typings.Goals as goal
 
@@ -57,3 +58,26 @@ returns-clause-few c =
 
 pub returns-clause-definite : goal.returns-clause-definite
 returns-clause-definite c = no_two c.args.rule.now c.in_ok-found.found c.in_ok-found.ensures c.in_default.ensures
+
+pub returns-then-is_some-clause-fault : goal.returns-then-is_some-clause-fault
+returns-then-is_some-clause-fault c =
+    contradiction_is c.args.rule.now
+    (found_one c.find_none.result _ _ c.find_none.ensures (sym c.is_some.ensures ∙ c.if-is_some.true) (none_for c.args.rule.now c.in_ok-found.found c.in_ok-found.ensures))
+
+pub returns-in-Some-clause-fault : goal.returns-in-Some-clause-fault
+returns-in-Some-clause-fault c =
+    let has = found_none c.find_none.result _ _ c.find_none.ensures (sym c.is_some.ensures ∙ c.if-is_some.false) in
+    ambiguous_is c.args.rule.now c.in-Some.node (first_two c.args.rule.now c.in_ok-found.found c.in_ok-found.ensures has c.in-Some.node c.in-Some.ensures)
+
+pub returns-then-are_too_many-clause-fault : goal.returns-then-are_too_many-clause-fault
+returns-then-are_too_many-clause-fault c =
+    let has = found_none c.find_none.result _ _ c.find_none.ensures (sym c.is_some.ensures ∙ c.if-is_some.false) in
+    too_many_is c.args.rule.now (more_lists c.args.rule.now c.in_ok-found.found c.in_ok-found.ensures has c.if-are_too_many.ensures)
+    (no_two c.args.rule.now c.in_ok-found.found c.in_ok-found.ensures c.in_default.ensures)
+
+pub returns-clause-fault : goal.returns-clause-fault
+returns-clause-fault c =
+    let has = found_none c.find_none.result _ _ c.find_none.ensures (sym c.is_some.ensures ∙ c.if-is_some.false) in
+    none_is c.args.rule.now (some_list c.args.rule.now c.in_ok-found.found c.in_ok-found.ensures has)
+    (few_lists c.args.rule.now c.in_ok-found.found c.in_ok-found.ensures c.if-are_too_many.ensures)
+    (no_two c.args.rule.now c.in_ok-found.found c.in_ok-found.ensures c.in_default.ensures)
