@@ -2,6 +2,7 @@
 
 use crate::one_rule::one_rule;
 use crate::shown_rules::show_term;
+use rule_term::Term;
 use rule_variants::{variant_count, variants};
 use std::alloc::{AllocError, Global};
 use std::fmt::Write;
@@ -43,12 +44,17 @@ fn told(alloc: Global, text: &str) -> Result<String, Fail> {
     let rule = one_rule(alloc, text)?;
     let sides = variants(alloc, &rule)?;
     let mut out = String::new(alloc);
-    write!(out, "{}:", variant_count(&rule))?;
-    for side in sides.as_slice() {
-        show_term(&mut out, side)?;
+    show_sides(&mut out, variant_count(&rule), sides.as_slice())?;
+    Ok(out)
+}
+
+fn show_sides(out: &mut String, count: u32, sides: &[Term]) -> Result<(), AllocError> {
+    write!(out, "{count}:")?;
+    for side in sides {
+        show_term(out, side)?;
         out.push(';')?;
     }
-    Ok(out)
+    Ok(())
 }
 
 #[test]
