@@ -9,6 +9,8 @@ mod every_form;
 #[cfg(test)]
 mod every_size;
 #[cfg(test)]
+mod one_rule;
+#[cfg(test)]
 mod opcodes;
 #[cfg(test)]
 mod outside;
@@ -20,6 +22,8 @@ mod reading;
 mod replacements;
 #[cfg(test)]
 mod rule_checks;
+#[cfg(test)]
+mod rule_sizes;
 #[cfg(test)]
 mod rule_texts;
 #[cfg(test)]
@@ -36,5 +40,7 @@ mod texts;
 mod tokens;
 #[cfg(test)]
 mod values;
+#[cfg(test)]
+mod variants;
 #[cfg(test)]
 mod works;

@@ -46,7 +46,7 @@ fn show_line(out: &mut String, line: &Line) -> Result<(), AllocError> {
 }
 
 #[cycle(show)]
-fn show_term(out: &mut String, term: &Term) -> Result<(), AllocError> {
+pub(crate) fn show_term(out: &mut String, term: &Term) -> Result<(), AllocError> {
     match term {
         Term::Var {
             var,
