@@ -19,5 +19,6 @@ pub mod SoundLaws
 pub mod Spelling
 pub mod Terminals
 pub mod TextLaws
+pub mod TurnLaws
 pub mod Words
 pub mod Worked

@@ -1,11 +1,14 @@
 -- Each value that a text denotes is made of parts as the grammar says: what each production keeps holds of each value that a text denotes.
-use Rattle.std.specs.Prelude.{◌≡◌, refl, ℕ, zero, suc, List, [], ◌∷◌, Option, Some, None}
+use Rattle.std.specs.Prelude.{◌≡◌, refl, ℕ, zero, suc, List, [], ◌∷◌, Ok, Option, Some, None}
 use Rattle.std.proofs.Common.{◌⊎◌, inl, inr, subst}
 use Rattle.grammar.specs.Terminals.{Terminal}
 use Rattle.grammar.specs.Lookahead.{Lookahead}
 use Rattle.grammar.specs.Grammar.{Vocabulary, Grammar, empty, terminal, sequence, choice, repetition, named, widened, Productions}
 use Rattle.grammar.specs.Spelling.{Behind, Spelling, SpellsEach, Spells, SpelledTo, AtEnd, IsText}
 use Rattle.grammar.specs.Made.{Fact, MadeOfEach, Made}
+use Rattle.grammar.specs.Reading.{Reading, read, read_to}
+use Rattle.grammar.specs.SoundLaws.{read_is_spelled}
+use Rattle.grammar.specs.DepthLaws.{depth_sound}
 
 module _ (voc : Vocabulary) where
   -- the fact holds up to some state, and what is asked behind holds there
@@ -65,3 +68,12 @@ module _ (voc : Vocabulary) where
     text_made g depth x a z ts t =
         let whole = spelled_made (SpelledTo voc productions depth) Named (depth_made depth) g x a (AtEnd voc z) ts t in
         subst (Made voc Named g x a) whole.behind.0 whole.made
+
+    -- so is what is read, whatever stands behind it
+    pub read_made : {p : Lookahead} {A : Type 0} (g : Grammar voc p A) (depth : ℕ) (x : voc.state) (ts : List Terminal) (f : Reading voc A)
+        → read voc (read_to voc productions depth) g x ts ≡ Ok f → Made voc Named g x f.value f.state
+    read_made g depth x ts f e =
+        let spelled = read_is_spelled voc (SpelledTo voc productions depth) (read_to voc productions depth) (depth_sound voc productions depth) g x ts f e
+        (λ y rest. y ≡ f.state) refl in
+        let whole = spelled_made (SpelledTo voc productions depth) Named (depth_made depth) g x f.value (λ y rest. y ≡ f.state) ts spelled in
+        subst (Made voc Named g x f.value) whole.behind whole.made

@@ -1,6 +1,8 @@
 -- What a rule file says: rules, the evidence for each, and weights; and why a text says nothing.
-use Rattle.std.specs.Prelude.{◌≡◌, ℕ, suc, ℤ, Bool, Option, List, [], ◌∷◌}
+use Rattle.std.specs.Prelude.{◌≡◌, ◌≤◌, ℕ, suc, ℤ, Bool, false, Option, List, [], ◌∷◌}
+use Rattle.std.specs.List.{AllByRecursion}
 use Rattle.nir_ops.specs.declared.op.Op.{Op}
+use Rattle.rule_term.specs.Formed.{is_mov}
 use Rattle.rule_term.specs.Terms.{Terms}
 use Rattle.rule_spelling.specs.Formula.{Formula}
 
@@ -75,6 +77,23 @@ weights_of [] = []
 weights_of (AWeight op weight ∷ items) = record { op = op; weight = weight } ∷ weights_of items
 weights_of (ARule rule ∷ items) = weights_of items
 weights_of (ALine line ∷ items) = weights_of items
+
+-- another opcode is weighed
+abbrev pub IsOther : WeightLine → WeightLine → Type 0
+IsOther line other = other.op ≡ line.op → ⊥
+
+-- each opcode at most once, never mov, and at most 60
+abbrev pub AreWeights : List WeightLine → Type 0
+AreWeights [] = Unit {0}
+AreWeights (line ∷ others) = (is_mov line.op ≡ false) × (line.weight ≤ 60) × AllByRecursion (IsOther line) others × AreWeights others
+
+-- what a whole file says
+pub record File : Type 0 where
+  pub entries : List Entry
+  pub weights : List WeightLine
+
+abbrev pub file_of : List Item → File
+file_of items = record { entries = entries_of items; weights = weights_of items }
 
 -- ---- faults
 

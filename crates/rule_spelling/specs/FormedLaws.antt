@@ -1,5 +1,5 @@
 -- Each rule that a text says is formed: an opcode is sought, opcodes have their sources, variables are numbered in order, and the replacement has no other.
-use Rattle.std.specs.Prelude.{◌≡◌, refl, ◌+◌, ◌<◌, ◌≤◌, pos, true, false, ◌&&◌, List, [], ◌∷◌, ◌++◌, length, nat_eq, nat_le, nat_lt, Option, Some, None, Ok, is_none}
+use Rattle.std.specs.Prelude.{◌≡◌, refl, ℕ, ◌+◌, ◌<◌, ◌≤◌, pos, true, false, ◌&&◌, List, [], ◌∷◌, ◌++◌, length, nat_eq, nat_le, nat_lt, Option, Some, None, Ok, is_none}
 use Rattle.std.specs.List.{AllByRecursion, list_all}
 use Rattle.std.proofs.Common.{sym, ap, ◌∙◌, subst, arith, inl, inr, ⊎_elim}
 use Rattle.std.proofs.lemmas.Bool.{and_from, eq-eqb, le-leb}
@@ -12,7 +12,8 @@ use Rattle.rule_term.specs.Pieces.{pieces, terms_count, vars_of, ops_of}
 use Rattle.rule_term.specs.Terms.{Terms, Nil, LitThen, AppThen}
 use Rattle.grammar.specs.Terminals.{Terminal}
 use Rattle.grammar.specs.Made.{Fact, Made}
-use Rattle.grammar.specs.MadeLaws.{text_made}
+use Rattle.grammar.specs.MadeLaws.{read_made, text_made}
+use Rattle.grammar.specs.Reading.{Reading, read, read_to}
 use Rattle.grammar.specs.Words.{each_behind_comma_then_maybe_one, listed, maybe_none, number_of}
 use Rattle.rule_spelling.specs.Annotated.{says, unquoted}
 use Rattle.rule_spelling.specs.Files.{Item, AWeight, ARule, ALine}
@@ -82,7 +83,7 @@ terms_known Evidence x term y made = tt
 
 -- ---- rules
 
-abbrev PassesTest : Item → Type 0
+abbrev pub PassesTest : Item → Type 0
 PassesTest (AWeight op weight) = Unit {0}
 PassesTest (ARule rule) = sides_formed rule.vars rule.search rule.replace ≡ true
 PassesTest (ALine line) = Unit {0}
@@ -176,6 +177,11 @@ rule_formed x item y (
     let formed = sides_are x1 x2 x3 x4 search replace start.0 start.1 (app_seeks x1 search x2 sought) other.0 other.1 put in
     ended_is search replace formula x5 t'' (item, y) ended
     (subst (λ (x : State). sides_formed (length x.names) search replace ≡ true) (options_keep x4 formula x5 options_made) formed)
+
+-- a rule that is read is formed, whatever stands behind it
+pub read_rule_formed : (depth : ℕ) (x : State) (ts : List Terminal) (f : Reading rule_files Item)
+    → read rule_files (read_to rule_files productions depth) rule x ts ≡ Ok f → PassesTest f.value
+read_rule_formed depth x ts f e = rule_formed x f.value f.state (read_made rule_files productions Known terms_known rule depth x ts f e)
 
 item_formed : (x : State) (a : Item) (y : State) → Made rule_files Known item x a y → PassesTest a
 item_formed x a y (inl (word, x1, word_made, (op, x2, op_made, (number, x3, number_made, end)))) = subst PassesTest end.0 tt

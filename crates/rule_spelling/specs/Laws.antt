@@ -5,7 +5,7 @@ use Rattle.grammar.specs.Spelling.{IsTextOfAnyDepth}
 use Rattle.grammar.specs.Terminals.{Terminal}
 use Rattle.rule_term.specs.declared.when.When.{When}
 use Rattle.rule_term.specs.Formed.{IsFormed}
-use Rattle.rule_spelling.specs.Files.{Item, AWeight, ARule, ALine, AreNumbered, Fault, entries_of}
+use Rattle.rule_spelling.specs.Files.{Item, AWeight, ARule, ALine, AreNumbered, AreWeights, Fault, entries_of, weights_of}
 use Rattle.rule_spelling.specs.Formula.{Formula, formulas, productions, disjunction, formula_of, terminals_from}
 use Rattle.rule_spelling.specs.Text.{At, Says, StandsAt, read_text}
 
@@ -33,6 +33,12 @@ RulesAreFormed = (text : List ℕ) (items : List Item) → Says text items → A
 -- they have the numbers from 0 on
 abbrev pub RulesAreNumbered : Type 0
 RulesAreNumbered = (text : List ℕ) (items : List Item) → Says text items → AreNumbered 0 (entries_of items)
+
+-- ---- weights
+
+-- each opcode is weighed at most once, never mov, and at most 60
+abbrev pub WeightsAreGood : Type 0
+WeightsAreGood = (text : List ℕ) (items : List Item) → Says text items → AreWeights (weights_of items)
 
 -- ---- formulas over options
 

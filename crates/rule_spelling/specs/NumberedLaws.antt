@@ -1,10 +1,16 @@
 -- The rules of a text are numbered from 0, and no opcode is weighed twice: what no other terminal changes of the state.
-use Rattle.std.specs.Prelude.{◌≡◌, refl, ℕ, suc, ℤ, pos, negsuc, false, ◌||◌, List, [], ◌∷◌, ◌++◌, length, nat_eq, nat_le, nat_lt, Option, Some, None, Ok, Err, Result, codes, ◌+◌}
+use Rattle.std.specs.Prelude.{◌≡◌, ◌≤◌, refl, ℕ, suc, ℤ, pos, negsuc, true, false, ◌||◌, List, [], ◌∷◌, ◌++◌, length, nat_eq, nat_le, nat_lt, IfSome, Option, Some, None, Ok, Err, Result, codes, ◌+◌}
+use Rattle.std.specs.List.{AllByRecursion}
+use Rattle.std.specs.Str.{bytes_eq}
 use Rattle.std.proofs.Common.{sym, ap, ◌∙◌, subst, inl, inr, ⊎_elim}
+use Rattle.std.proofs.lemmas.Bool.{both_ways, leb-true, or_left, or_parts, or_right}
+use Rattle.std.proofs.lemmas.Slice.Eq.{bytes_eq-Decides}
+use Rattle.list_laws.specs.AllLaws.{all_each}
 use Rattle.list_laws.specs.BoolLaws.{chosen}
 use Rattle.nir_ops.specs.declared.op.Op.{Op}
-use Rattle.nir_ops.specs.Opcodes.{op_info}
+use Rattle.nir_ops.specs.Opcodes.{name_of, op_info}
 use Rattle.nir_ops.specs.Lookup.{op_named}
+use Rattle.nir_ops.specs.Names.{op_named-named}
 use Rattle.rule_term.specs.Formed.{is_mov, literal_formed, may_stand}
 use Rattle.rule_term.specs.Terms.{Terms}
 use Rattle.grammar.specs.Terminals.{Terminal, is_among}
@@ -15,9 +21,9 @@ use Rattle.grammar.specs.MadeLaws.{text_made}
 use Rattle.grammar.specs.RespectsLaws.{Respects, made_keeps}
 use Rattle.grammar.specs.Words.{each_behind_comma_then_maybe_one, given, listed, maybe_none, number_of}
 use Rattle.rule_spelling.specs.Annotated.{Annotated, says, unquoted}
-use Rattle.rule_spelling.specs.Files.{Binding, Fault, Item, AWeight, ARule, ALine, AreNumbered, entries_of}
+use Rattle.rule_spelling.specs.Files.{Binding, Fault, Item, AWeight, ARule, ALine, AreNumbered, AreWeights, IsOther, entries_of, weights_of}
 use Rattle.rule_spelling.specs.Formula.{Formula, formula_of}
-use Rattle.rule_spelling.specs.Laws.{RulesAreNumbered}
+use Rattle.rule_spelling.specs.Laws.{RulesAreNumbered, WeightsAreGood}
 use Rattle.rule_spelling.specs.RuleFiles.{IsFile, app, expr, options, rule, evidence, item, file, in_brackets, index, literal, proof, step, law, calc, log_step, reading, bound_to, binding, bindings, others_behind, behind_rev, productions, rule_files}
 use Rattle.rule_spelling.specs.Text.{terminals_of}
 use Rattle.rule_spelling.specs.Tokens.{State, none_read, Place, Search, Replace, Evidence, Taken, Head, and_said, bound_var, closed, counted_op, evidence_begun, formula_taken, is_plain, may_ask, named_op, named_var, number_taken, numbered_var, op_taken, or_bad_option, place_of, rule_begun, rule_ended, side_begun, var_taken, variants_of, weighed_op, weighed_taken, weight_of, weight_taken}
@@ -56,20 +62,16 @@ said_stays : {A : Type 0} (x : State) (r : Result Annotated Fault) (k : Annotate
 said_stays x (Ok word) k p stays e = stays word e
 said_stays x (Err fault) k p stays e = absurd cc
 
-counted_stays : (place : Place) (x : State) (head : Head) (p : Head × State) → counted_op place x head ≡ Ok p → Stays x p.1
-counted_stays Search x head p e =
+counted_stays : (x : State) (head : Head) (p : Head × State) → counted_op x head ≡ Ok p → Stays x p.1
+counted_stays x head p e =
     ⊎_elim (λ few. gave x (head, record x { ops = suc x.ops }) p (refl, refl) few.1) (λ many. absurd (let never = many.1 in cc))
     (chosen (nat_lt x.ops 16) _ _ _ e)
-counted_stays Replace x head p e =
-    ⊎_elim (λ few. gave x (head, record x { ops = suc x.ops }) p (refl, refl) few.1) (λ many. absurd (let never = many.1 in cc))
-    (chosen (nat_lt x.ops 16) _ _ _ e)
-counted_stays Evidence x head p e = any_stays head x p e
 
 named_stays : (place : Place) (x : State) (word : Annotated) (o : Option Op) (p : Head × State) → named_op place x word o ≡ Ok p → Stays x p.1
 named_stays place x word None p e = ⊎_elim (λ a. absurd (let never = a.1 in cc)) (λ b. absurd (let never = b.1 in cc)) (chosen (may_ask place word) _ _ _ e)
 named_stays place x word (Some op) p e =
     ⊎_elim
-    (λ stands. ⊎_elim (λ asks. counted_stays place x _ p asks.1) (λ never. absurd (let no_more = never.1 in cc)) (chosen (may_ask place word) _ _ _ stands.1))
+    (λ stands. ⊎_elim (λ asks. counted_stays x _ p asks.1) (λ never. absurd (let no_more = never.1 in cc)) (chosen (may_ask place word) _ _ _ stands.1))
     (λ excluded. absurd (let never = excluded.1 in cc))
     (chosen (may_stand op) _ _ _ e)
 
@@ -162,7 +164,7 @@ options_same : Same options
 options_same = ((any_same, λ _. ((formula_stays, λ formula. ((any_same, tt), λ _. tt)), tt)), tt)
 
 bound_same : (name : List ℕ) → Same (bound_to name)
-bound_same name = ((any_same, λ _. tt), λ with. tt)
+bound_same name = ((side_stays, λ _. tt), λ with. tt)
 
 binding_same : Same binding
 binding_same = (bytes_same, λ name. bound_same name)
@@ -183,7 +185,7 @@ law_same : Same law
 law_same = (index_same, λ number. (any_same, λ _. (brackets_same index index_same, λ path. (reading_same, λ taken. tt))))
 
 calc_same : Same calc
-calc_same = (any_same, λ _. (any_same, λ _. (brackets_same index index_same, λ path. (any_same, λ _. (tt, λ with. tt)))))
+calc_same = (any_same, λ _. (any_same, λ _. (brackets_same index index_same, λ path. (side_stays, λ _. (tt, λ with. tt)))))
 
 step_same : Same step
 step_same = (any_same, λ _. ((law_same, calc_same), λ a. (any_same, λ _. tt)))
@@ -221,33 +223,77 @@ keeps g same x a y made = made_keeps rule_files Stays self on Keeping (λ place 
 terms_keep : (place : Place) (x : State) (term : Terms) (y : State) → Made rule_files Keeping (productions place) x term y → Keeping place x term y
 terms_keep place x term y made = keeps (expr place) (expr_same place) x term y made
 
--- how many rules there are before an item and behind it
-abbrev ItemCounts : ℕ → Item → ℕ → Type 0
-ItemCounts n (AWeight op number) m = n ≡ m
-ItemCounts n (ARule read) m = (read.number ≡ n) × (m ≡ suc n)
-ItemCounts n (ALine line) m = n ≡ m
+-- how many rules there are before an item and behind it, and which opcodes were weighed
+abbrev ItemKeeps : State → Item → State → Type 0
+ItemKeeps x (AWeight op weight) y =
+    (x.rules ≡ y.rules) × (is_mov op ≡ false) × (weight ≤ 60) × (is_among (name_of op) x.weighed ≡ false) × (y.weighed ≡ name_of op ∷ x.weighed)
+ItemKeeps x (ARule read) y = (read.number ≡ x.rules) × (y.rules ≡ suc x.rules) × (x.weighed ≡ y.weighed)
+ItemKeeps x (ALine line) y = Stays x y
 
-abbrev Counted : ℕ → List Item → Type 0
-Counted n [] = Unit {0}
-Counted n (item ∷ items) = (m : ℕ) × ItemCounts n item m × Counted m items
+abbrev ItemsKeep : State → List Item → Type 0
+ItemsKeep x [] = Unit {0}
+ItemsKeep x (item ∷ items) = (y : State) × ItemKeeps x item y × ItemsKeep y items
 
-counted_numbers : (n : ℕ) (items : List Item) → Counted n items → AreNumbered n (entries_of items)
-counted_numbers n [] counted = tt
-counted_numbers n (AWeight op number ∷ items) counted = counted_numbers n items (subst (λ m. Counted m items) (sym counted.1) counted.2)
-counted_numbers n (ARule read ∷ items) counted = (counted.1.0, counted_numbers (suc n) items (subst (λ m. Counted m items) counted.1.1 counted.2))
-counted_numbers n (ALine line ∷ items) counted = counted_numbers n items (subst (λ m. Counted m items) (sym counted.1) counted.2)
+numbers : (x : State) (items : List Item) → ItemsKeep x items → AreNumbered x.rules (entries_of items)
+numbers x [] kept = tt
+numbers x (AWeight op weight ∷ items) kept = subst (λ n. AreNumbered n (entries_of items)) (sym kept.1.0) (numbers kept.0 items kept.2)
+numbers x (ARule read ∷ items) kept = (kept.1.0, subst (λ n. AreNumbered n (entries_of items)) kept.1.1 (numbers kept.0 items kept.2))
+numbers x (ALine line ∷ items) kept = subst (λ n. AreNumbered n (entries_of items)) (sym kept.1.0) (numbers kept.0 items kept.2)
 
-ended_counts : (search replace : Terms) (formula : Formula) (x : State) (t : Terminal) (p : Item × State) → rule_ended search replace formula x t ≡ Ok p
-    → ItemCounts x.rules p.0 p.1.rules
+-- no opcode that was weighed is weighed later
+not_again : (name : List ℕ) (x : State) (items : List Item) → is_among name x.weighed ≡ true → ItemsKeep x items
+    → AllByRecursion (λ line. name_of line.op ≡ name → ⊥) (weights_of items)
+not_again name x [] was kept = tt
+not_again name x (AWeight op weight ∷ items) was kept = (
+  λ same. both_ways (is_among name x.weighed) (subst (λ other. is_among other x.weighed ≡ false) same kept.1.3) was,
+  not_again name kept.0 items
+      (subst (λ names. is_among name names ≡ true) (sym kept.1.4) (or_right (bytes_eq name (name_of op)) (is_among name x.weighed) was))
+      kept.2,
+)
+not_again name x (ARule read ∷ items) was kept = not_again name kept.0 items (subst (λ names. is_among name names ≡ true) kept.1.2 was) kept.2
+not_again name x (ALine line ∷ items) was kept = not_again name kept.0 items (subst (λ names. is_among name names ≡ true) kept.1.1 was) kept.2
+
+weights : (x : State) (items : List Item) → ItemsKeep x items → AreWeights (weights_of items)
+weights x [] kept = tt
+weights x (AWeight op weight ∷ items) kept =
+    let name = name_of op in
+    let is_there : is_among name (name ∷ x.weighed) ≡ true =
+    or_left (bytes_eq name name) (is_among name x.weighed) ((bytes_eq-Decides name name).1 refl) in (
+      kept.1.1,
+      kept.1.2,
+      all_each (λ line. name_of line.op ≡ name → ⊥) (IsOther (record { op = op; weight = weight })) (λ line apart same. apart (ap name_of same))
+          (weights_of items)
+          (not_again name kept.0 items (subst (λ names. is_among name names ≡ true) (sym kept.1.4) is_there) kept.2),
+      weights kept.0 items kept.2,
+    )
+weights x (ARule read ∷ items) kept = weights kept.0 items kept.2
+weights x (ALine line ∷ items) kept = weights kept.0 items kept.2
+
+-- ---- rules and weights
+
+ended_keeps : (search replace : Terms) (formula : Formula) (x : State) (t : Terminal) (p : Item × State) → rule_ended search replace formula x t ≡ Ok p
+    → ItemKeeps x p.0 p.1
 unfolding rule_ended
-ended_counts search replace formula x t p e =
+ended_keeps search replace formula x t p e =
     ⊎_elim
-    (λ few. subst (λ (p : Item × State). ItemCounts x.rules p.0 p.1.rules) (took_is _ p few.1) (refl, refl))
+    (λ few. subst (λ (p : Item × State). ItemKeeps x p.0 p.1) (took_is _ p few.1) (refl, refl, refl))
     (λ many. absurd (let never = many.1 in cc))
     (chosen (nat_le (x.variants + variants_of search) 65536) _ _ _ e)
 
-rule_counts : (x : State) (a : Item) (y : State) → Made rule_files Keeping rule x a y → ItemCounts x.rules a y.rules
-rule_counts x a y (
+-- an item behind other terminals that keep all
+behind : (x y z : State) (a : Item) → Stays x y → ItemKeeps y a z → ItemKeeps x a z
+behind x y z (AWeight op weight) stays kept = (
+  stays.0 ∙ kept.0,
+  kept.1,
+  kept.2,
+  subst (λ names. is_among (name_of op) names ≡ false) (sym stays.1) kept.3,
+  kept.4 ∙ ap (λ names. name_of op ∷ names) (sym stays.1),
+)
+behind x y z (ARule read) stays kept = (kept.0 ∙ sym stays.0, kept.1 ∙ ap suc (sym stays.0), stays.1 ∙ kept.2)
+behind x y z (ALine line) stays kept = on x y z stays kept
+
+rule_keeps : (x : State) (a : Item) (y : State) → Made rule_files Keeping rule x a y → ItemKeeps x a y
+rule_keeps x a y (
   mark,
   x1,
   (t, is, begun),
@@ -257,45 +303,66 @@ rule_counts x a y (
     let first = keeps (app Search) (app_same Search) x1 search x2 sought in
     let other = side_stays x2 t' (comma, x3) side in
     let last = keeps options options_same x4 formula x5 options_made in
-    let same : x.rules ≡ x5.rules = start.0 ∙ first.0 ∙ other.0 ∙ put.0 ∙ last.0 in
-    subst (λ n. ItemCounts n a y.rules) (sym same) (ended_counts search replace formula x5 t'' (a, y) ended)
+    let same : Stays x x5 = on x x1 x5 start (on x1 x2 x5 first (on x2 x3 x5 other (on x3 x4 x5 put last))) in
+    behind x x5 y a same (ended_keeps search replace formula x5 t'' (a, y) ended)
 
-weighed_counts : (x : State) (name : List ℕ) (o : Option Op) (p : Op × State) → weighed_op x name o ≡ Ok p → x.rules ≡ p.1.rules
-weighed_counts x name None p e = absurd cc
-weighed_counts x name (Some op) p e =
+-- an opcode that is weighed
+abbrev Weighs : State → Op × State → Type 0
+Weighs x p = (x.rules ≡ p.1.rules) × (is_mov p.0 ≡ false) × (is_among (name_of p.0) x.weighed ≡ false) × (p.1.weighed ≡ name_of p.0 ∷ x.weighed)
+
+some_op : (name : List ℕ) (o : Option Op) (op : Op) → o ≡ Some op → IfSome o (λ op. name_of op ≡ name) → name_of op ≡ name
+some_op name o op e named = subst (λ o. IfSome o (λ op. name_of op ≡ name)) e named
+
+weighed_op_is : (x : State) (name : List ℕ) (o : Option Op) (p : Op × State) → op_named name ≡ o → weighed_op x name o ≡ Ok p → Weighs x p
+weighed_op_is x name None p h e = absurd cc
+weighed_op_is x name (Some op) p h e =
+    let same : name_of op ≡ name = some_op name (op_named name) op h (op_named-named name) in
     ⊎_elim
     (λ bad. absurd (let never = bad.1 in cc))
-    (λ good. subst (λ (p : Op × State). x.rules ≡ p.1.rules) (took_is (op, record x { weighed = name ∷ x.weighed }) p good.1) refl)
+    (λ good.
+    let parts = or_parts (is_mov op) (is_among name x.weighed) good.0 in
+    subst (Weighs x) (took_is (op, record x { weighed = name ∷ x.weighed }) p good.1)
+    (refl, parts.0, subst (λ other. is_among other x.weighed ≡ false) (sym same) parts.1, ap (λ other. other ∷ x.weighed) (sym same)))
     (chosen (is_mov op || is_among name x.weighed) _ _ _ e)
 
-weighed_keeps : (x : State) (t : Terminal) (p : Op × State) → weighed_taken x t ≡ Ok p → x.rules ≡ p.1.rules
+weighed_is : (x : State) (t : Terminal) (p : Op × State) → weighed_taken x t ≡ Ok p → Weighs x p
 unfolding weighed_taken
-weighed_keeps x t p e = weighed_counts x t.text (op_named t.text) p e
+weighed_is x t p e = weighed_op_is x t.text (op_named t.text) p refl e
 
-weight_counts : (x : State) (n : ℤ) (p : ℕ × State) → weight_of x n ≡ Ok p → x.rules ≡ p.1.rules
-weight_counts x (pos n) p e =
-    ⊎_elim (λ few. (any_stays n x p few.1).0) (λ many. absurd (let never = many.1 in cc)) (chosen (nat_le n 60) _ _ _ e)
-weight_counts x (negsuc n) p e = absurd cc
+weight_of_is : (x : State) (n : ℤ) (p : ℕ × State) → weight_of x n ≡ Ok p → (p.0 ≤ 60) × Stays x p.1
+weight_of_is x (pos n) p e =
+    ⊎_elim
+    (λ few. subst (λ (p : ℕ × State). (p.0 ≤ 60) × Stays x p.1) (took_is (n, x) p few.1) (leb-true n 60 few.0, self x))
+    (λ many. absurd (let never = many.1 in cc))
+    (chosen (nat_le n 60) _ _ _ e)
+weight_of_is x (negsuc n) p e = absurd cc
 
-weight_keeps : (x : State) (t : Terminal) (p : ℕ × State) → weight_taken x t ≡ Ok p → x.rules ≡ p.1.rules
+weight_is : (x : State) (t : Terminal) (p : ℕ × State) → weight_taken x t ≡ Ok p → (p.0 ≤ 60) × Stays x p.1
 unfolding weight_taken
-weight_keeps x t p e = weight_counts x (number_of t.kind) p e
+weight_is x t p e = weight_of_is x (number_of t.kind) p e
 
-item_counts : (x : State) (a : Item) (y : State) → Made rule_files Keeping item x a y → ItemCounts x.rules a y.rules
-item_counts x a y (inl (word, x1, (t, is, word_made), (op, x2, (t', is', op_made), (number, x3, (t'', is'', number_made), end)))) =
-    subst (λ a. ItemCounts x.rules a y.rules) end.0
-    ((any_stays tt x (word, x1) word_made).0 ∙ weighed_keeps x1 t' (op, x2) op_made ∙ weight_keeps x2 t'' (number, x3) number_made ∙ ap
-    (λ (x : State). x.rules) end.1)
-item_counts x a y (inr (inl made)) = rule_counts x a y made
-item_counts x a y (inr (inr made)) =
-    let stays = keeps evidence evidence_same x a y made in
-    line_counts a made
+-- ---- items
+
+item_keeps : (x : State) (a : Item) (y : State) → Made rule_files Keeping item x a y → ItemKeeps x a y
+item_keeps x a y (inl (word, x1, (t, is, word_made), (op, x2, (t', is', op_made), (number, x3, (t'', is'', number_made), end)))) =
+    let weighs = weighed_is x1 t' (op, x2) op_made in
+    let weight = weight_is x2 t'' (number, x3) number_made in
+    let kept : ItemKeeps x1 (AWeight op number) x3 = (
+      weighs.0 ∙ weight.1.0,
+      weighs.1,
+      weight.0,
+      weighs.2,
+      sym weight.1.1 ∙ weighs.3,
+    ) in
+    behind x x1 y a (any_stays tt x (word, x1) word_made) (subst (λ a. ItemKeeps x1 a y) end.0 (subst (ItemKeeps x1 (AWeight op number)) end.1 kept))
+item_keeps x a y (inr (inl made)) = rule_keeps x a y made
+item_keeps x a y (inr (inr made)) = line_keeps a made
   where
-    line_counts : (a : Item) → Made rule_files Keeping evidence x a y → ItemCounts x.rules a y.rules
-    line_counts a made =
+    line_keeps : (a : Item) → Made rule_files Keeping evidence x a y → ItemKeeps x a y
+    line_keeps a made =
         let stays = keeps evidence evidence_same x a y made in
         let end = made.3.3.3 in
-        subst (λ a. ItemCounts x.rules a y.rules) end.0 stays.0
+        subst (λ a. ItemKeeps x a y) end.0 stays
 
 abbrev some_item : Item → Option Item
 some_item item = Some item
@@ -303,30 +370,39 @@ some_item item = Some item
 same_item : (a b : Item) → some_item a ≡ some_item b → a ≡ b
 same_item a b e = cc
 
-others_count : (x : State) (items : List Item) (y : State) → Made rule_files Keeping (each_behind_comma_then_maybe_one rule_files item) x items y
-    → Counted x.rules items
-others_count x [] y made = tt
-others_count x (a ∷ others) y (w, (mark, z, (t, is, taken), inl (first, v, made, is_first)), rest) =
-    let here : ItemCounts z.rules a v.rules = subst (λ a. ItemCounts z.rules a v.rules) (same_item first a is_first.0) (item_counts z first v made) in
-    let there : ItemCounts x.rules a v.rules = subst (λ n. ItemCounts n a v.rules) (sym (any_stays tt x (mark, z) taken).0) here in
-    (w.rules, subst (λ (v : State). ItemCounts x.rules a v.rules) is_first.1 there, others_count w others y rest)
-others_count x (a ∷ others) y (w, (mark, z, mark_made, inr is_last), rest) = absurd (let never = is_last.0 in cc)
+others_keep : (x : State) (items : List Item) (y : State) → Made rule_files Keeping (each_behind_comma_then_maybe_one rule_files item) x items y
+    → ItemsKeep x items
+others_keep x [] y made = tt
+others_keep x (a ∷ others) y (w, (mark, z, (t, is, taken), inl (first, v, made, is_first)), rest) =
+    let here : ItemKeeps z a v = subst (λ a. ItemKeeps z a v) (same_item first a is_first.0) (item_keeps z first v made) in
+    (w, subst (ItemKeeps x a) is_first.1 (behind x z v a (any_stays tt x (mark, z) taken) here), others_keep w others y rest)
+others_keep x (a ∷ others) y (w, (mark, z, mark_made, inr is_last), rest) = absurd (let never = is_last.0 in cc)
 
-listed_count : (x : State) (items : List Item) (y : State) → Made rule_files Keeping (maybe_none rule_files (listed rule_files item)) x items y
-    → Counted x.rules items
-listed_count x items y (inl (first, x1, first_made, (others, x2, others_made, end))) =
-    subst (Counted x.rules) end.0 (x1.rules, item_counts x first x1 first_made, others_count x1 others x2 others_made)
-listed_count x items y (inr end) = subst (Counted x.rules) end.0 tt
+listed_keep : (x : State) (items : List Item) (y : State) → Made rule_files Keeping (maybe_none rule_files (listed rule_files item)) x items y
+    → ItemsKeep x items
+listed_keep x items y (inl (first, x1, first_made, (others, x2, others_made, end))) =
+    subst (ItemsKeep x) end.0 (x1, item_keeps x first x1 first_made, others_keep x1 others x2 others_made)
+listed_keep x items y (inr end) = subst (ItemsKeep x) end.0 tt
+
+-- the items of a file follow a state in which nothing was read
+file_keeps : (items : List Item) (z : State) (ts : List Terminal) → IsFile items z ts → (x : State) × Stays none_read x × ItemsKeep x items
+unfolding IsFile
+file_keeps items z ts is = go (text_made rule_files productions Keeping terms_keep file is.0 none_read items z ts is.1)
+  where
+    go : Made rule_files Keeping file none_read items z → (x : State) × Stays none_read x × ItemsKeep x items
+    go (all, x, (opening, x1, (t, is', taken), (inner, x2, inner_made, (closing, x3, closing_made, whole))), (ending, x4, end_made, end)) =
+        (x1, any_stays tt none_read (opening, x1) taken, subst (ItemsKeep x1) (whole.0 ∙ end.0) (listed_keep x1 inner x2 inner_made))
 
 pub file_numbered : (items : List Item) (z : State) (ts : List Terminal) → IsFile items z ts → AreNumbered 0 (entries_of items)
-unfolding IsFile
-file_numbered items z ts is = go (text_made rule_files productions Keeping terms_keep file is.0 none_read items z ts is.1)
-  where
-    go : Made rule_files Keeping file none_read items z → AreNumbered 0 (entries_of items)
-    go (all, x, (opening, x1, (t, is', taken), (inner, x2, inner_made, (closing, x3, closing_made, whole))), (ending, x4, end_made, end)) =
-        let none : x1.rules ≡ 0 = sym (any_stays tt none_read (opening, x1) taken).0 in
-        subst (λ items. AreNumbered 0 (entries_of items)) (whole.0 ∙ end.0)
-        (counted_numbers 0 inner (subst (λ n. Counted n inner) none (listed_count x1 inner x2 inner_made)))
+file_numbered items z ts is =
+    let kept = file_keeps items z ts is in
+    subst (λ n. AreNumbered n (entries_of items)) (sym kept.1.0) (numbers kept.0 items kept.2)
+
+pub file_weighed : (items : List Item) (z : State) (ts : List Terminal) → IsFile items z ts → AreWeights (weights_of items)
+file_weighed items z ts is = let kept = file_keeps items z ts is in weights kept.0 items kept.2
 
 pub rules_are_numbered : RulesAreNumbered
 rules_are_numbered text items says = file_numbered items says.state (terminals_of text says.tokens) says.spelled
+
+pub weights_are_good : WeightsAreGood
+weights_are_good text items says = file_weighed items says.state (terminals_of text says.tokens) says.spelled

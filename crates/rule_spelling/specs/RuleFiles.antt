@@ -93,7 +93,7 @@ literals = in_brackets literal
 
 -- the WORD of a binding, which is not `rev`, or is
 abbrev pub bound_to : List ℕ → Grammar rule_files (one (TheMark 61)) Binding
-bound_to name = mark rule_files 61 >> named Evidence >>= λ with. empty (record { name = name; with = with })
+bound_to name = terminal (TheMark 61) side_begun >> named Evidence >>= λ with. empty (record { name = name; with = with })
 
 abbrev pub binding : Grammar rule_files (one (WordBut [])) Binding
 binding = bytes rule_files (WordBut []) >>= bound_to
@@ -136,7 +136,7 @@ calc = do
   word rule_files (codes "calc")
   mark rule_files 44
   path ← indices
-  mark rule_files 44
+  terminal (TheMark 44) side_begun
   with ← named Evidence
   empty (Calc path with)
 

@@ -210,12 +210,8 @@ counted_is x head p may few e =
     subst (λ p. IsOp x p × (p.0.once ≡ head.once)) (took_is (op_behind x head) p e)
     (record { may = may; names = refl; ops = refl; few = ltb-true x.ops 16 few }, refl)
 
-pub counted_seek : (x : State) (head : Head) (p : Head × State) → may_stand head.op ≡ true → counted_op Search x head ≡ Ok p → IsOp x p × (p.0.once ≡ head.once)
-counted_seek x head p may e =
-    ⊎_elim (λ few. counted_is x head p may few.0 few.1) (λ many. absurd (let never = many.1 in cc)) (chosen (nat_lt x.ops 16) _ _ _ e)
-
-pub counted_put : (x : State) (head : Head) (p : Head × State) → may_stand head.op ≡ true → counted_op Replace x head ≡ Ok p → IsOp x p × (p.0.once ≡ head.once)
-counted_put x head p may e =
+pub counted_op_is : (x : State) (head : Head) (p : Head × State) → may_stand head.op ≡ true → counted_op x head ≡ Ok p → IsOp x p × (p.0.once ≡ head.once)
+counted_op_is x head p may e =
     ⊎_elim (λ few. counted_is x head p may few.0 few.1) (λ many. absurd (let never = many.1 in cc)) (chosen (nat_lt x.ops 16) _ _ _ e)
 
 pub named_seek : (x : State) (word : Annotated) (o : Option Op) (p : Head × State) → named_op Search x word o ≡ Ok p → IsOp x p
@@ -224,7 +220,7 @@ named_seek x word (Some op) p e =
     ⊎_elim
     (λ stands.
     ⊎_elim
-    (λ asks. (counted_seek x (record { op = op; size = word.size; once = is_once word.cond }) p stands.0 asks.1).0)
+    (λ asks. (counted_op_is x (record { op = op; size = word.size; once = is_once word.cond }) p stands.0 asks.1).0)
     (λ no_more. absurd (let never = no_more.1 in cc))
     (chosen (may_ask Search word) _ _ _ stands.1))
     (λ excluded. absurd (let never = excluded.1 in cc))
@@ -241,7 +237,7 @@ named_put x word (Some op) p e =
     (λ stands.
     ⊎_elim
     (λ asks.
-    let is = counted_put x (record { op = op; size = word.size; once = is_once word.cond }) p stands.0 asks.1 in
+    let is = counted_op_is x (record { op = op; size = word.size; once = is_once word.cond }) p stands.0 asks.1 in
     (is.0, is.1 ∙ never_once word.cond (and_parts (not word.constant) (is_none word.cond) asks.0).1))
     (λ no_more. absurd (let never = no_more.1 in cc))
     (chosen (may_ask Replace word) _ _ _ stands.1))

@@ -19,7 +19,7 @@ use Rattle.rule_spelling.specs.Files.{Item, ARule, Fault, Expected, UnknownOp, A
 use Rattle.rule_spelling.specs.Formula.{Formula, formula_of}
 
 -- What was read before: how many rules, and how many variants they have together; which opcodes were weighed, by their names; the variables of the last
--- rule in the order in which they first stand; and how many opcodes the side has so far.
+-- rule in the order in which they first stand; and how many opcodes the side or the expression has so far.
 pub record State : Type 0 where
   pub rules : ℕ
   pub variants : ℕ
@@ -68,18 +68,16 @@ may_ask Search word = not word.constant && (is_none word.cond || is_once word.co
 may_ask Replace word = not word.constant && is_none word.cond
 may_ask Evidence word = not word.constant && is_none word.cond
 
--- a side has at most 16 opcodes; evidence any number
-abbrev pub counted_op : Place → State → Head → Taken Head
-counted_op Search x head = if nat_lt x.ops 16 then Ok (head, record x { ops = suc x.ops }) else Err TooLarge
-counted_op Replace x head = if nat_lt x.ops 16 then Ok (head, record x { ops = suc x.ops }) else Err TooLarge
-counted_op Evidence x head = Ok (head, x)
+-- a side has at most 16 opcodes, and so has each expression of evidence
+abbrev pub counted_op : State → Head → Taken Head
+counted_op x head = if nat_lt x.ops 16 then Ok (head, record x { ops = suc x.ops }) else Err TooLarge
 
 -- no rule has mov, an opcode that gathers components, or a reduction
 abbrev pub named_op : Place → State → Annotated → Option Op → Taken Head
 named_op place x word None = if may_ask place word then Err UnknownOp else Err Expected
 named_op place x word (Some op) =
     if may_stand op
-    then (if may_ask place word then counted_op place x (record { op = op; size = word.size; once = is_once word.cond }) else Err Expected)
+    then (if may_ask place word then counted_op x (record { op = op; size = word.size; once = is_once word.cond }) else Err Expected)
     else Err Excluded
 
 unfoldable pub op_taken : Place → State → Terminal → Taken Head
@@ -137,7 +135,7 @@ number_taken x terminal = if literal_formed (number_of terminal.kind) false then
 unfoldable pub rule_begun : State → Terminal → Taken (Unit {0})
 rule_begun x terminal = if nat_lt x.rules 4096 then Ok (tt, record x { names = []; ops = 0 }) else Err TooLarge
 
--- the other side begins: no opcodes yet
+-- the other side begins, or an expression of evidence: no opcodes yet
 unfoldable pub side_begun : State → Terminal → Taken (Unit {0})
 side_begun x terminal = Ok (tt, record x { ops = 0 })
 

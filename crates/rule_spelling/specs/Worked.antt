@@ -1,5 +1,5 @@
 -- Worked examples of rule files: what texts say, and where others stop.
-use Rattle.std.specs.Prelude.{◌≡◌, refl, pos, negsuc, true, false, [], ◌∷◌, Some, None, Ok, Err, codes, map}
+use Rattle.std.specs.Prelude.{◌≡◌, refl, ℕ, zero, suc, pos, negsuc, true, false, List, [], ◌∷◌, ◌++◌, Option, Some, None, Result, Ok, Err, codes, map}
 use Rattle.nir_lex.specs.Classes.{starts_word, is_in_word, is_blank, is_quote, is_inside_quotes, is_punctuation, is_word}
 use Rattle.nir_lex.specs.Numbers.{limited}
 use Rattle.nir_lex.specs.Pieces.{number_piece, decimal, hexadecimal, negative, unsigned, quoted, name as name_piece, piece_at}
@@ -12,10 +12,10 @@ use Rattle.op_eval.specs.Views.{shape_of}
 use Rattle.rule_term.specs.Formed.{may_stand}
 use Rattle.rule_term.specs.Terms.{Nil, VarThen, LitThen, AppThen}
 use Rattle.rule_spelling.specs.Annotated.{says, size_written, cond_written, name_and_rest, quoted_annotated}
-use Rattle.rule_spelling.specs.Files.{Item, ARule, ALine, AWeight, Apply, Calc, Proof, Cases, Derive, Logged, Expected, UnknownOp, Arity, Unbound, BadOption, Excluded, Weight}
+use Rattle.rule_spelling.specs.Files.{Item, ARule, ALine, AWeight, Apply, Calc, Proof, Cases, Derive, Logged, Expected, UnknownOp, Arity, Unbound, TooLarge, BadOption, Excluded, Weight}
 use Rattle.rule_spelling.specs.Formula.{Always, Has, Not, Both, Either, formula_of}
 use Rattle.rule_spelling.specs.RuleFiles.{read_file}
-use Rattle.rule_spelling.specs.Text.{Lex, At, read_text}
+use Rattle.rule_spelling.specs.Text.{TextFault, Lex, At, read_text}
 use Rattle.rule_spelling.specs.Tokens.{op_taken, closed, var_taken, rule_begun, side_begun, rule_ended, formula_taken, number_taken, evidence_begun, weighed_taken, weight_taken}
 
 -- ---- what texts say
@@ -99,3 +99,25 @@ unfolding read_text read_file read_tokens piece_at is_blank starts_word is_in_wo
     decimal hexadecimal negative unsigned name_piece op_taken closed var_taken rule_begun side_begun rule_ended formula_taken evidence_begun weighed_taken
     weight_taken number_taken says size_written cond_written name_and_rest quoted_annotated is_word may_stand all_ops op_named formula_of name_of row_of op_info shape_of
 stopped = refl
+
+-- ---- an expression of evidence has at most 16 opcodes, and each is counted alone
+
+abbrev times : ℕ → List ℕ → List ℕ
+times zero text = []
+times (suc n) text = text ++ times n text
+
+-- two bindings and a calculation, the first with so many opcodes
+abbrev with_opcodes : ℕ → List ℕ
+with_opcodes n =
+    codes "[(('ineg', 'a'), 'a'), by * derive [(1, [], b = " ++ times n (codes "(ineg, ") ++ codes "a" ++ times n (codes ")")
+    ++ codes ", c = (ineg, a)), (calc, [], (ineg, a))]]"
+
+abbrev fault_in : Result (List Item) TextFault → Option TextFault
+fault_in (Ok items) = None
+fault_in (Err fault) = Some fault
+
+counted : map (λ n. fault_in (read_text (with_opcodes n))) (16 ∷ 17 ∷ []) ≡ None ∷ Some (At TooLarge 161) ∷ []
+unfolding read_text read_file read_tokens piece_at is_blank starts_word is_in_word is_quote is_inside_quotes quoted is_punctuation number_piece limited
+    decimal hexadecimal negative unsigned name_piece op_taken closed var_taken rule_begun side_begun rule_ended formula_taken evidence_begun weighed_taken
+    weight_taken number_taken says size_written cond_written name_and_rest quoted_annotated is_word may_stand all_ops op_named formula_of name_of row_of op_info shape_of
+counted = refl

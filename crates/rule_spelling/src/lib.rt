@@ -10,6 +10,7 @@ ghost use Rattle.rule_spelling.specs.Laws.{
   RulesAreFormed,
   RulesAreNumbered,
   SpelledIsRead,
+  WeightsAreGood,
 };
 
 use rule_term::formed_is_tested;
@@ -42,3 +43,8 @@ pub fn rules_are_formed()
 {
     formed_is_tested();
 }
+
+/// The weights that a text says are good: no opcode is weighed twice, mov never, and none weighs more than 60.
+pub fn weights_are_good()
+    ensures { WeightsAreGood }
+{}
