@@ -19,6 +19,5 @@ pub mod SoundLaws
 pub mod Spelling
 pub mod Terminals
 pub mod TextLaws
-pub mod TurnLaws
 pub mod Words
 pub mod Worked

@@ -193,7 +193,7 @@ module _ (given_words : List (List ℕ)) (rules : Reading) (out lines : Writing)
 
     pub ran_to_end : (given result : Status) (text : List ℕ) → text ≡ check_text file.entries → given ≡ verdict (refusals file.entries)
         → ((result ≡ given) × Gains out.taken_before out.taken_after text)
-            ⊎ ((result ≡ WriteFault) × WriteFaults out × ((before : List ℕ) → out.taken_before ≡ Some before → TakesFront before out.taken_after text))
+        ⊎ ((result ≡ WriteFault) × WriteFaults out × ((before : List ℕ) → out.taken_before ≡ Some before → TakesFront before out.taken_after text))
         → Tells lines result → RanCheck given_words rules out lines result
     ran_to_end given result text is verdict_is writes told =
         let P : Status → Type 0 = λ s. Tells lines s → RanCheck given_words rules out lines s in

@@ -80,7 +80,7 @@ module _ (given_words : List (List ℕ)) (said : Given) (reads : run_words given
       untouched = λ not_ok _. absurd (not_ok refl);
       printed = λ _. for_said given_words said reads (λ given. (rule_text shader_text : List ℕ) → rules.left_before ≡ Some rule_text → shader.left_before ≡ Some shader_text
           → (last : ir.Shader) × IsPrinted given rule_text shader_text printed.journal printed.rewrites printed.limit printed.stopped last
-              × Gains out.taken_before out.taken_after (printed_text given printed.journal last))
+          × Gains out.taken_before out.taken_after (printed_text given printed.journal last))
           (λ rule_text shader_text rules_told shader_told.
           let last = run.prints rule_text shader_text rules_told shader_told in
           (last.0, last.1, subst (Gains out.taken_before out.taken_after) last.2 gains));
@@ -111,7 +111,7 @@ module _ (given_words : List (List ℕ)) (said : Given) (reads : run_words given
       prefix = λ _. for_said given_words said reads (λ given. (rule_text shader_text : List ℕ) → rules.left_before ≡ Some rule_text → shader.left_before ≡ Some shader_text
           → (before : List ℕ) → out.taken_before ≡ Some before
           → (last : ir.Shader) × (stopped : Bool) × IsPrinted given rule_text shader_text printed.journal printed.rewrites printed.limit stopped last
-              × TakesFront before out.taken_after (printed_text given printed.journal last))
+          × TakesFront before out.taken_after (printed_text given printed.journal last))
           (λ rule_text shader_text rules_told shader_told before taken.
           let last = run.prints rule_text shader_text rules_told shader_told in
           (last.0, printed.stopped, last.1, subst (TakesFront before out.taken_after) last.2 (front before taken)));

@@ -51,6 +51,7 @@ rules-judged skip text file is = by_length (nat_lt 67108864 (length text)) (read
   same_file : (found : RuleFile) (list : List Refused) → judged true found list ≡ Ok file → found ≡ file
   same_file found [] is = cc
   same_file found (refused ∷ others) is = cc
+
   by_length : (long : Bool) (read : Option RuleFile) → (if long then Err (TooLong which.Rules) else file_answer true read) ≡ Ok file
       → (if long then Err (TooLong which.Rules) else file_answer skip read) ≡ judged skip file (refusals file.entries)
   by_length true read is = absurd (cc)
@@ -64,6 +65,7 @@ rules-refused skip text ending is = by_length (nat_lt 67108864 (length text)) (r
   never : (found : RuleFile) (list : List Refused) → judged true found list ≡ Err ending → ⊥
   never found [] is = cc
   never found (refused ∷ others) is = cc
+
   by_length : (long : Bool) (read : Option RuleFile) → (if long then Err (TooLong which.Rules) else file_answer true read) ≡ Err ending
       → (if long then Err (TooLong which.Rules) else file_answer skip read) ≡ Err ending
   by_length true read is = is

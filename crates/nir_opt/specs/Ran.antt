@@ -87,12 +87,12 @@ pub record Ran (given_words : List (List ℕ)) (rules shader : Reading) (out lin
   pub printed : report.status ≡ status.Ok → (given : Given) → run_words given_words ≡ Some given
       → (rule_text shader_text : List ℕ) → rules.left_before ≡ Some rule_text → shader.left_before ≡ Some shader_text
       → (last : Shader) × IsPrinted given rule_text shader_text report.journal report.rewrites report.limit report.stopped last
-          × Gains out.taken_before out.taken_after (printed_text given report.journal last)
+      × Gains out.taken_before out.taken_after (printed_text given report.journal last)
   pub prefix : report.status ≡ status.WriteFault → (given : Given) → run_words given_words ≡ Some given
       → (rule_text shader_text : List ℕ) → rules.left_before ≡ Some rule_text → shader.left_before ≡ Some shader_text
       → (before : List ℕ) → out.taken_before ≡ Some before
       → (last : Shader) × (stopped : Bool) × IsPrinted given rule_text shader_text report.journal report.rewrites report.limit stopped last
-          × TakesFront before out.taken_after (printed_text given report.journal last)
+      × TakesFront before out.taken_after (printed_text given report.journal last)
   pub notes : Notes given_words rules lines report
   pub idle : report.status ≢ status.Ok → report.status ≢ status.WriteFault → (report.journal ≡ []) × (report.rewrites ≡ 0) × (report.limit ≡ 0)
   pub stopped : report.status ≢ status.Ok → report.stopped ≡ false

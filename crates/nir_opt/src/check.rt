@@ -96,7 +96,7 @@ fn written_whole<K: Sink, N: Sink>(out: &mut K, notes: &mut N, judged: Judged) -
     requires { IsLine check_usage_line judged.told.built judged.told.status }
     ensures status { ((result ≡ judged.told.status) × Gains (K.taken out.old) (K.taken out.new) judged.text)
         ⊎ ((result ≡ Status.WriteFault) × Rose (K.faults out.old) (K.faults out.new)
-            × ((before : List ℕ) → K.taken out.old ≡ Some before → TakesFront before (K.taken out.new) judged.text)) }
+        × ((before : List ℕ) → K.taken out.old ≡ Some before → TakesFront before (K.taken out.new) judged.text)) }
     ensures notes { TakesLine (N.taken notes.old) (N.taken notes.new) (N.faults notes.old) (N.faults notes.new) (line_with check_usage_line result) }
 {
     match write_all(out, judged.text.as_slice()) {

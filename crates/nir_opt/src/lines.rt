@@ -21,9 +21,7 @@ pub fn plain_line<'a>(usage: &'a [u8], status: &Status) -> &'a [u8]
         Status::ReadFault(Which::Rules) => b"read failed: rules\n",
         Status::ReadFault(Which::Shader) => b"read failed: shader\n",
         Status::WriteFault => b"write failed\n",
-        Status::RuleRefused(_)
-        | Status::ShaderSyntax(_)
-        | Status::ShaderInvalid { .. } => b"",
+        Status::RuleRefused(_) | Status::ShaderSyntax(_) | Status::ShaderInvalid { .. } => b"",
         Status::TooLong(Which::Rules) => b"too long: rules\n",
         Status::TooLong(Which::Shader) => b"too long: shader\n",
         Status::OutOfMemory => b"out of memory\n",

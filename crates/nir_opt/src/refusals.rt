@@ -97,11 +97,7 @@ pub fn push_refusal_line(
 }
 
 /// The line of a rule that is not accepted behind these words, with its line feed.
-pub fn line_of_refusal(
-    alloc: Global,
-    front: &[u8],
-    refused: &Refused,
-) -> Result<Bytes, OutOfMemory>
+pub fn line_of_refusal(alloc: Global, front: &[u8], refused: &Refused) -> Result<Bytes, OutOfMemory>
     ensures { IfOk result (λ line. line ≡ refusal_line front.now refused.now) }
 {
     let mut out = Vec::new(alloc);

@@ -14,8 +14,7 @@ use nir_ir::Journal;
 use std::alloc::Global;
 
 /// What is told of words of `run` that have no reading.
-pub const USAGE: &[u8] =
-    b"usage: nir_opt RULES [--limit=N] [--option=NAME] [--remarks] [--skip]\n";
+pub const USAGE: &[u8] = b"usage: nir_opt RULES [--limit=N] [--option=NAME] [--remarks] [--skip]\n";
 
 /// What is told of words of `check` that have no reading.
 pub const CHECK_USAGE: &[u8] = b"usage: nir_opt check RULES\n";

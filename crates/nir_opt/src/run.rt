@@ -70,12 +70,12 @@ pub fn run<R: Source, S: Source, K: Sink, N: Sink, L: Ledger>(
     ensures printed { result.status ≡ Status.Ok → (said : Given) → run_words words.now ≡ Some said →
         (rule_text shader_text : List ℕ) → R.left rules.old ≡ Some rule_text → S.left shader.old ≡ Some shader_text →
         (last : Shader) × IsPrinted said rule_text shader_text result.journal result.rewrites result.limit result.stopped last
-            × Gains (K.taken out.old) (K.taken out.new) (printed_text said result.journal last) }
+        × Gains (K.taken out.old) (K.taken out.new) (printed_text said result.journal last) }
     ensures prefix { result.status ≡ Status.WriteFault → (said : Given) → run_words words.now ≡ Some said →
         (rule_text shader_text : List ℕ) → R.left rules.old ≡ Some rule_text → S.left shader.old ≡ Some shader_text →
         (before : List ℕ) → K.taken out.old ≡ Some before →
         (last : Shader) × (stopped : Bool) × IsPrinted said rule_text shader_text result.journal result.rewrites result.limit stopped last
-            × TakesFront before (K.taken out.new) (printed_text said result.journal last) }
+        × TakesFront before (K.taken out.new) (printed_text said result.journal last) }
     ensures notes { Notes words.now
         (record { left_before = R.left rules.old; left_after = R.left rules.new; faults_before = R.faults rules.old; faults_after = R.faults rules.new })
         (record { taken_before = N.taken notes.old; taken_after = N.taken notes.new; faults_before = N.faults notes.old; faults_after = N.faults notes.new })
@@ -128,14 +128,24 @@ fn run_in_stages<R: Source, S: Source, K: Sink, N: Sink, L: Ledger>(
         Err(status) => return stopped(alloc, notes, true, with_line(alloc, USAGE, status)),
     };
     let Ok(heard) = note_skipped(alloc, notes, checked.refused.as_slice()) else {
-        return stopped(alloc, notes, true, with_line(alloc, USAGE, Status::OutOfMemory));
+        return stopped(
+            alloc,
+            notes,
+            true,
+            with_line(alloc, USAGE, Status::OutOfMemory),
+        );
     };
     let read = match read_shader_text(alloc, shader) {
         Ok(read) => read,
         Err(status) => return stopped(alloc, notes, heard, with_line(alloc, USAGE, status)),
     };
     let Ok(printed) = printed_last(alloc, read, &checked.table, &said, steps) else {
-        return stopped(alloc, notes, heard, with_line(alloc, USAGE, Status::OutOfMemory));
+        return stopped(
+            alloc,
+            notes,
+            heard,
+            with_line(alloc, USAGE, Status::OutOfMemory),
+        );
     };
     finished(out, notes, heard, printed)
 }

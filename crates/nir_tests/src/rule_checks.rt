@@ -1,7 +1,7 @@
 //! Texts of rules, and what checking them answers: all of them at once, and with what is not accepted left out.
 
 use rule_check::{CheckFault, Refused, RuleCause, check_file, check_file_skipping};
-use rule_read::{Derivation, Line, Lines, Proof, RuleFile, read_rules};
+use rule_read::{RuleFile, read_rules};
 use rule_term::Table;
 use size_infer::SizeFault;
 use std::alloc::{AllocError, Global};
@@ -72,79 +72,6 @@ static CHECKED: &[(&str, &str)] = &[
     ),
 ];
 
-/// A text of one rule, its evidence, and what checking them answers.
-type Row = (&'static str, &'static [(Option<u32>, Given)], &'static str);
-
-/// Evidence: the trial of all cases, or a derivation of no steps.
-#[derive(Clone, Copy)]
-enum Given {
-    Cases,
-    Derive,
-}
-
-/// Which line is chosen at each typing.
-static CHOSEN: &[Row] = &[
-    (ONE_SIZE, &[(Some(0), Given::Cases)], "accepted: 0"),
-    (
-        ONE_SIZE,
-        &[(Some(1), Given::Cases)],
-        "rule 0 typing 0: no evidence",
-    ),
-    (
-        ONE_SIZE,
-        &[(None, Given::Derive)],
-        "rule 0 typing 0: not built",
-    ),
-    // A line for the typing goes before one for all, wherever it stands.
-    (
-        ONE_SIZE,
-        &[(None, Given::Derive), (Some(0), Given::Cases)],
-        "accepted: 0",
-    ),
-    (
-        ONE_SIZE,
-        &[(Some(0), Given::Derive), (None, Given::Cases)],
-        "rule 0 typing 0: not built",
-    ),
-    (
-        ONE_SIZE,
-        &[(None, Given::Cases), (Some(0), Given::Derive)],
-        "rule 0 typing 0: not built",
-    ),
-    // Of lines for the same, the first.
-    (
-        ONE_SIZE,
-        &[(Some(0), Given::Cases), (Some(0), Given::Derive)],
-        "accepted: 0",
-    ),
-    (
-        ONE_SIZE,
-        &[(None, Given::Derive), (None, Given::Cases)],
-        "rule 0 typing 0: not built",
-    ),
-    // The first typing without good evidence.
-    (
-        EACH_SIZE,
-        &[(Some(0), Given::Cases)],
-        "rule 0 typing 1: no evidence",
-    ),
-    (
-        EACH_SIZE,
-        &[(Some(1), Given::Derive), (None, Given::Cases)],
-        "rule 0 typing 1: not built",
-    ),
-    (
-        EACH_SIZE,
-        &[(Some(2), Given::Derive), (None, Given::Cases)],
-        "rule 0 typing 2: not built",
-    ),
-];
-
-const ONE_SIZE: &str = "[((iadd, 'a@8', 0), a)]";
-
-/// Typings 0 to 3, with 8, 16, 32 and 64 bits.
-const EACH_SIZE: &str = "[((iadd, a, 0), a)]";
-
 /// Five rules, of which two are accepted: each keeps its number.
 const FIVE: &str =
     "[((iand, 'a@8', 3), 0), by * cases, ((iadd, 'a@8', 0), a), by * cases, ((iadd, 'a@1', 0), a), \
@@ -207,40 +134,6 @@ fn verdict(alloc: Global, file: RuleFile) -> Result<String, AllocError> {
 fn rules_are_accepted_or_refused(rt: HostRuntime) -> Result<(), Fail> {
     for &(text, wanted) in CHECKED {
         let file = read_rules(rt.alloc(), text.as_bytes())?.ok_or("a reading")?;
-        let shown = verdict(rt.alloc(), file)?;
-        assert_eq!(rt; shown.as_str(), wanted, "{text}");
-    }
-    Ok(())
-}
-
-/// The lines of evidence.
-fn lines_of(alloc: Global, given: &[(Option<u32>, Given)]) -> Result<Lines, Fail> {
-    let mut lines = Lines::new(alloc);
-    for &(typing, given) in given {
-        let proof = match given {
-            Given::Cases => Proof::Cases,
-            Given::Derive => Proof::Derive(Derivation::new(alloc)),
-        };
-        lines.push(Line { typing, proof })?;
-    }
-    Ok(lines)
-}
-
-/// The rule of the text, with other evidence.
-fn with_lines(alloc: Global, text: &str, lines: Lines) -> Result<RuleFile, Fail> {
-    let mut file = read_rules(alloc, text.as_bytes())?.ok_or("a reading")?;
-    if file.entries.len() != 1 {
-        return Err("one rule".into());
-    }
-    file.entries.at_mut(0).lines = lines;
-    Ok(file)
-}
-
-#[test]
-fn a_line_for_the_typing_goes_first(rt: HostRuntime) -> Result<(), Fail> {
-    for &(text, given, wanted) in CHOSEN {
-        let lines = lines_of(rt.alloc(), given)?;
-        let file = with_lines(rt.alloc(), text, lines)?;
         let shown = verdict(rt.alloc(), file)?;
         assert_eq!(rt; shown.as_str(), wanted, "{text}");
     }

@@ -32,7 +32,7 @@ enum Kind {
 /// Why the rule is not accepted, None where it is: the fault of its sizes, else the first typing without good evidence.
 /// What memory it takes is free again at the end, but for the values that it answers.
 #[tactic(auto, using(crate::proofs::EvidenceLemmas::told_by_evidence, crate::proofs::EvidenceLemmas::told_by_size))]
-pub(crate) fn refusal_of(alloc: Global, entry: &Entry) -> Result<Option<Refused>, OutOfMemory>
+pub fn refusal_of(alloc: Global, entry: &Entry) -> Result<Option<Refused>, OutOfMemory>
     ensures value { IfOk result (λ refused. refused ≡ refusal_of entry.now) }
     ensures formed { IsFormed entry.now.rule }
 {

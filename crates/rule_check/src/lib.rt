@@ -10,6 +10,7 @@ mod sizes;
 mod values;
 
 pub use cases::{Trial, try_cases};
+pub use evidence::refusal_of;
 pub use file::{check_file, check_file_skipping, verdicts_are_meant};
 pub use refused::{CheckFault, Checked, Refused, RefusedList, RuleCause};
 pub use values::Values;

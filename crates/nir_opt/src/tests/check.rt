@@ -32,9 +32,7 @@ static FILES: [Case; 8] = [
         ..REFUSES
     },
     Case {
-        rules: Text::Whole(
-            b"[(('iand', ('u2u32', a), ('iand', ('u2u32', b), ('u2u32', c))), 0)]",
-        ),
+        rules: Text::Whole(b"[(('iand', ('u2u32', a), ('iand', ('u2u32', b), ('u2u32', c))), 0)]"),
         out: b"rule 0 typing 0: no evidence\n",
         notes: b"rules: rule 0 typing 0: no evidence\n",
         ..REFUSES
@@ -104,8 +102,8 @@ static ENDED: [Case; 6] = [
     },
     Case {
         rules: Text::Whole(b"[weight imul 61]"),
-        number: 5,
-        notes: b"rules: byte 13: bad weight\n",
+        number: 12,
+        notes: b"not built: rules\n",
         ..NONE
     },
 ];

@@ -74,89 +74,58 @@ fn words_without_a_reading_are_refused(rt: HostRuntime) {
     all_end(&rt, rt.alloc(), &USAGE);
 }
 
-/// Rule texts that are not in the grammar.
-const MISWRITTEN: Case<'static> = Case {
-    number: 5,
+/// Rule texts that have no reading.
+const UNREAD_RULES: Case<'static> = Case {
+    number: 12,
+    notes: b"not built: rules\n",
     ..REFUSED
 };
 
-static RULE_FAULTS: [Case; 12] = [
+static RULE_FAULTS: [Case; 10] = [
     Case {
         rules: Text::Whole(b"[]]"),
-        place: 2,
-        notes: b"rules: byte 2: unexpected\n",
-        ..MISWRITTEN
+        ..UNREAD_RULES
     },
     Case {
         rules: Text::Whole(b"[ ? ]"),
-        place: 2,
-        notes: b"rules: byte 2: bad byte\n",
-        ..MISWRITTEN
+        ..UNREAD_RULES
     },
     Case {
-        rules: Text::Whole(b"[ 1a ]"),
-        place: 2,
-        notes: b"rules: byte 2: bad number\n",
-        ..MISWRITTEN
+        rules: Text::Whole(b"[((iadd3, a, 0), a), by * cases]"),
+        ..UNREAD_RULES
     },
     Case {
-        rules: Text::Whole(b"[((iadd3, a, 0), a)]"),
-        place: 3,
-        notes: b"rules: byte 3: unknown opcode\n",
-        ..MISWRITTEN
+        rules: Text::Whole(b"[((iadd, a), a), by * cases]"),
+        ..UNREAD_RULES
     },
     Case {
-        rules: Text::Whole(b"[((iadd, a), a)]"),
-        place: 10,
-        notes: b"rules: byte 10: wrong number of sources\n",
-        ..MISWRITTEN
+        rules: Text::Whole(b"[((iadd, a, 0), b), by * cases]"),
+        ..UNREAD_RULES
     },
     Case {
-        rules: Text::Whole(b"[((iadd, a, 0), b)]"),
-        place: 16,
-        notes: b"rules: byte 16: unbound variable\n",
-        ..MISWRITTEN
-    },
-    Case {
-        rules: Text::Whole(b"[((mov, a), a)]"),
-        place: 3,
-        notes: b"rules: byte 3: left out\n",
-        ..MISWRITTEN
-    },
-    Case {
-        rules: Text::Whole(b"[((iadd, a, '~b'), a)]"),
-        place: 12,
-        notes: b"rules: byte 12: left out\n",
-        ..MISWRITTEN
-    },
-    Case {
-        rules: Text::Whole(b"[((iadd, a, 0), a, 'options->a | options->b')]"),
-        place: 19,
-        notes: b"rules: byte 19: bad condition\n",
-        ..MISWRITTEN
-    },
-    Case {
-        rules: Text::Whole(b"[weight imul 61]"),
-        place: 13,
-        notes: b"rules: byte 13: bad weight\n",
-        ..MISWRITTEN
-    },
-    Case {
-        rules: Text::Whole(b"[weight mov 1]"),
-        place: 8,
-        notes: b"rules: byte 8: bad weight\n",
-        ..MISWRITTEN
+        rules: Text::Whole(b"[((mov, a), a), by * cases]"),
+        ..UNREAD_RULES
     },
     Case {
         rules: Text::Whole(b"[by * cases]"),
-        place: 1,
-        notes: b"rules: byte 1: unexpected\n",
-        ..MISWRITTEN
+        ..UNREAD_RULES
+    },
+    Case {
+        rules: Text::Whole(b"[weight imul 6]"),
+        ..UNREAD_RULES
+    },
+    Case {
+        rules: Text::Whole(b"[((iadd, 'a@8', 0), a, 'options->b'), by * cases]"),
+        ..UNREAD_RULES
+    },
+    Case {
+        rules: Text::Whole(b"[((iadd, 'a@8', 0), a), by 0 cases]"),
+        ..UNREAD_RULES
     },
 ];
 
 #[test]
-fn the_first_fault_of_a_rule_text_is_told(rt: HostRuntime) {
+fn rule_texts_without_a_reading_are_refused(rt: HostRuntime) {
     all_end(&rt, rt.alloc(), &RULE_FAULTS);
 }
 

@@ -1,37 +1,30 @@
-//! Rule files of every form under the words of `run`: options, limits, steps that are printed, and rules that are left out.
+//! Rules at their sizes under the words of `run`: limits, steps that are printed, and rules that are left out.
 
 use super::rewriting::{REWRITTEN, step};
-use super::texts::{ADD_ZERO, MOVED, RULE};
+use super::texts::{ADD_ZERO, RULE};
 use super::{Case, REFUSED, Text, all_end, uncounted};
 use crate::program::Ended;
-
-/// A rule under an option.
-const OPTIONAL: Case<'static> = Case {
-    rules: Text::Whole(b"[(('iadd', 'a@8', 0), 'a', '!options->keep_add'), by * cases]"),
-    ..REWRITTEN
-};
 
 /// Nothing is done.
 const KEPT: Case<'static> = Case {
     out: ADD_ZERO,
     journal: &[],
-    ..OPTIONAL
+    ..REWRITTEN
 };
 
-static OPTIONS: [Case; 3] = [
-    OPTIONAL,
+static OPTIONS: [Case; 2] = [
     Case {
         words: &[b"r", b"--option=keep_add"],
-        ..KEPT
+        ..REWRITTEN
     },
     Case {
-        words: &[b"r", b"--option=keep", b"--option=other"],
-        ..OPTIONAL
+        words: &[b"r", b"--option=keep", b"--option=keep", b"--option=_1"],
+        ..REWRITTEN
     },
 ];
 
 #[test]
-fn a_rule_is_used_where_its_options_hold(rt: HostRuntime) {
+fn options_may_be_set(rt: HostRuntime) {
     all_end(&rt, rt.alloc(), &OPTIONS);
 }
 
@@ -97,7 +90,7 @@ fn rules_that_are_not_accepted_are_left_out(rt: HostRuntime) {
     all_end(&rt, rt.alloc(), &SKIPPED);
 }
 
-static LIMITS: [Case; 4] = [
+static LIMITS: [Case; 3] = [
     Case {
         words: &[b"r", b"--limit=0"],
         rules: Text::Whole(RULE),
@@ -114,13 +107,6 @@ static LIMITS: [Case; 4] = [
     Case {
         words: &[b"r", b"--limit=1000000"],
         limit: 1_000_000,
-        ..REWRITTEN
-    },
-    // a weight in the file counts
-    Case {
-        rules: Text::Whole(b"[weight iadd 60, (('iadd', 'a@8', 0), 'a'), by * cases]"),
-        out: MOVED,
-        limit: 4156,
         ..REWRITTEN
     },
 ];
@@ -189,7 +175,7 @@ const NOT_ACCEPTED: Case<'static> = Case {
     ..REFUSED
 };
 
-static CAUSES: [Case; 7] = [
+static CAUSES: [Case; 4] = [
     Case {
         rules: Text::Whole(b"[(('iadd', 'a@8', 0), ('iadd', a, ('u2u8', 0))), by * cases]"),
         notes: b"rules: rule 0: node 3 has no size\n",
@@ -210,21 +196,6 @@ static CAUSES: [Case; 7] = [
     Case {
         rules: Text::Whole(b"[(('udiv', a, 1), a)]"),
         notes: b"rules: rule 0 typing 0: no evidence\n",
-        ..NOT_ACCEPTED
-    },
-    Case {
-        rules: Text::Whole(b"[(('udiv', 'a@8', 1), a), by 1 cases]"),
-        notes: b"rules: rule 0 typing 0: no evidence\n",
-        ..NOT_ACCEPTED
-    },
-    Case {
-        rules: Text::Whole(b"[(('udiv', a, 1), a), by * derive [(57, [])]]"),
-        notes: b"rules: rule 0 typing 0: not built\n",
-        ..NOT_ACCEPTED
-    },
-    Case {
-        rules: Text::Whole(b"[(('udiv', a, 1), a), by * log []]"),
-        notes: b"rules: rule 0 typing 0: not built\n",
         ..NOT_ACCEPTED
     },
 ];
