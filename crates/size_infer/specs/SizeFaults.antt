@@ -14,8 +14,8 @@ too_many list = if nat_lt 64 (length list) then Some TooMany else None
 
 -- by all typings of a rule, and the first node of the replacement that they leave open
 abbrev pub fault_of : List (List Width) → Option ℕ → Option SizeFault
-fault_of [] node = Some Contradiction
-fault_of (one ∷ others) node = option_or (option_map Ambiguous node) (too_many (one ∷ others))
+fault_of [] first = Some Contradiction
+fault_of (one ∷ others) first = option_or (option_map Ambiguous first) (too_many (one ∷ others))
 
 -- the fault of a rule's sizes, None where they are of use
 unfoldable pub size_fault : Rule → Option SizeFault
