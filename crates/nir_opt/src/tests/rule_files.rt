@@ -4,6 +4,7 @@ use super::rewriting::{REWRITTEN, step};
 use super::texts::{ADD_ZERO, RULE};
 use super::{Case, REFUSED, Text, all_end, uncounted};
 use crate::program::Ended;
+use nir_ir::{Step, ValueId};
 
 /// Nothing is done.
 const KEPT: Case<'static> = Case {
