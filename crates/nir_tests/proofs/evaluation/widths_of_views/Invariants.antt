@@ -1,5 +1,0 @@
-use Rattle.std.proofs.Common.{◌≡◌, map, take}
-use Rattle.nir_tests.proofs.evaluation.widths_of_views.Given as goal
-
-abbrev pub invariant-loop-view : goal.invariant-loop-view
-invariant-loop-view l = l.widths ≡ map (λ view. view.width) (take l.view-index l.views)
