@@ -86,6 +86,26 @@ module _ (voc : Vocabulary) where
         (λ k h n x us few. depth_same m d d' (omega (arith, l)) (omega (arith, l')) n x us (omega (arith, h, few)))
         (productions n) (each n) x ts e
 
+    -- a nonterminal to a depth that is enough for what is left of the text
+    abbrev pub read_any : (n : voc.nonterminal) → Reader voc (voc.denoted n)
+    read_any n x ts = read_to voc productions (suc (length ts)) n x ts
+
+    any_same : (d : ℕ) (n : voc.nonterminal) (x : voc.state) (ts : List Terminal) → length ts < d → read_to voc productions d n x ts ≡ read_any n x ts
+    any_same d n x ts l = depth_same (length ts) d (suc (length ts)) l (omega arith) n x ts (omega arith)
+
+    -- it is read by its production
+    pub named_is_production : (n : voc.nonterminal) (x : voc.state) (ts : List Terminal) → read_any n x ts ≡ read voc read_any (productions n) x ts
+    named_is_production n x ts =
+        guarded_same (length ts) (read_to voc productions (length ts)) read_any (depth_takes voc productions (length ts)) (depth_keeps voc productions (length ts))
+        (λ k less n y us few. any_same (length ts) n y us (omega (arith, less, few))) (productions n) (each n) x ts (omega arith)
+
+    -- and so is a whole text
+    pub deep_is_any : {p : Lookahead} {A : Type 0} (g : Grammar voc p A) (x : voc.state) (ts : List Terminal)
+        → read_deep voc productions g x ts ≡ ended voc (read voc read_any g x ts)
+    deep_is_any g x ts =
+        ap (ended voc) (read_same (length ts) (read_to voc productions (suc (length ts))) read_any (depth_keeps voc productions (suc (length ts)))
+        (λ n y us few. any_same (suc (length ts)) n y us (omega (arith, few))) g x ts (omega arith))
+
     module _ {p : Lookahead} {A : Type 0} (g : Grammar voc p A) (x : voc.state) (ok : p.decides ≡ true)
         (oks : (n : voc.nonterminal) → (voc.ahead n).decides ≡ true) where
       texts_same : (d d' : ℕ) (ts : List Terminal) → length ts < d → length ts < d' → read_text voc productions g d x ts ≡ read_text voc productions g d' x ts

@@ -1,0 +1,10 @@
+pub mod FormulaParts
+pub mod Formulas
+pub mod Gives
+pub mod Growing
+pub mod Lists
+pub mod Parts
+pub mod Says
+pub mod Source
+pub mod Standing
+pub mod Views
