@@ -1,5 +1,2 @@
-pub mod Front
-pub mod Items
-pub mod NamesLemmas
-pub mod Numbers
-pub mod Sources
+pub mod GrownItems
+pub mod Options

@@ -1,8 +1,5 @@
-pub mod Annotated
-pub mod Names
-pub mod Reading
+pub mod FileText
+pub mod Growing
+pub mod Lists
 pub mod RuleFile
-pub mod Rules
-pub mod Terms
-pub mod Views
-pub mod Within
+pub mod Says

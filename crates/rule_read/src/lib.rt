@@ -1,20 +1,17 @@
-//! Rule files: rules with the evidence that they hold, and the weights of opcodes.
+//! Rule files: rules with the evidence that they hold, and the weights of opcodes. They are read by the whole grammar
+//! (`rule_spelling`), each part exact with the place of its first fault.
 #![tactic(auto)]
 
-mod annotated;
 mod derivation;
 mod entry;
-mod fault;
-mod names;
-mod point;
-mod read;
-mod reading;
+mod file;
+mod grown;
+mod rule;
 mod rule_file;
-mod rules;
-mod suffix;
-mod terms;
+mod weight;
 
 pub use derivation::{Binding, Bindings, Derivation, DeriveStep, Path};
 pub use entry::{Entries, Entry, Line, Lines, Proof, WeightLine, Weights};
-pub use read::read_rules;
+pub use file::read_rules;
 pub use rule_file::RuleFile;
+pub use term_read::RuleFault;

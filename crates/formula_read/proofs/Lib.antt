@@ -1,0 +1,2 @@
+pub mod FormulaSteps
+pub mod FormulaTexts

@@ -1,0 +1,2 @@
+pub mod FormulaParts
+pub mod Formulas

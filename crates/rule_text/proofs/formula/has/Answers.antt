@@ -1,7 +1,0 @@
-use Rattle.std.proofs.Common.{ap, ◌∙◌}
-use Rattle.rule_spelling.specs.Formula.{Has}
-use Rattle.rule_text.proofs.FormulaSteps.{has_says}
-use Rattle.rule_text.proofs.formula.has.Goals as goal
-
-pub returns-clause-ok : goal.returns-clause-ok
-returns-clause-ok c = has_says c.in_ok-from_slice.field-0 ∙ ap Has c.in_ok-from_slice.ensures

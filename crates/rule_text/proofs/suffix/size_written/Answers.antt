@@ -1,6 +1,0 @@
-use Rattle.rule_spelling.specs.Annotated.{size_written}
-use Rattle.rule_text.proofs.suffix.size_written.Goals as goal
-
-pub returns : goal.returns
-unfolding size_written
-returns c = c.first_size.ensures

@@ -1,0 +1,6 @@
+pub mod Gives
+pub mod Parts
+pub mod ReadingLaws
+pub mod Source
+pub mod Standing
+pub mod Views
