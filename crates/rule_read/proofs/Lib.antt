@@ -1,2 +1,3 @@
 pub mod GrownItems
+pub mod ItemKinds
 pub mod Options

@@ -4,8 +4,10 @@
 
 mod derivation;
 mod entry;
+mod evidence;
 mod file;
 mod grown;
+mod items;
 mod rule;
 mod rule_file;
 mod weight;

@@ -88,6 +88,10 @@ next_stands text first next stands is given =
       last = one_less (all_tokens text) (tokens_from text next) first last;
     }
 
+-- none stands behind the end
+pub end_is_last : (text : List ℕ) (first : Token) → is_end first.kind ≡ true → terminals_of text (tokens_from text first) ≡ terminals_of text (first ∷ [])
+end_is_last text first is = rw is refl
+
 length_of_terminals : (text : List ℕ) (tokens : List Token) → length (terminals_of text tokens) ≡ length tokens
 length_of_terminals text [] = refl
 length_of_terminals text (token ∷ tokens) = ap suc (length_of_terminals text tokens)

@@ -1,3 +1,4 @@
+pub mod FoldLaws
 pub mod Gives
 pub mod Parts
 pub mod ReadingLaws

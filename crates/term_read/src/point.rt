@@ -14,8 +14,8 @@ pub struct Point<'a> {
 }
 
 impl<'a> Point<'a> {
-    ghost use Rattle.std.specs.Prelude.{◌≡◌, false, None, [], ◌∷◌, length};
-    ghost use Rattle.grammar.specs.Terminals.{has, AQuoted, TheMark, TheWord, WordBut};
+    ghost use Rattle.std.specs.Prelude.{◌≡◌, true, false, None, [], ◌∷◌, length};
+    ghost use Rattle.grammar.specs.Terminals.{has, AQuoted, TheEnd, TheMark, TheWord, WordBut};
     ghost use Rattle.nir_lex.specs.From.{fault_of};
     ghost use Rattle.nir_lex.specs.Kinds.{is_end};
     ghost use Rattle.nir_lex.specs.Reading.{read_tokens};
@@ -106,6 +106,22 @@ impl<'a> Point<'a> {
             | TokenKind::Name
             | TokenKind::Punct { .. }
             | TokenKind::End => false,
+        }
+    }
+
+    /// Whether the text ends here: then no token stands behind.
+    #[tactic(auto, using(crate::proofs::Stood::end_is_last))]
+    pub fn is_end(&self) -> bool
+        ensures value { result ≡ has TheEnd (here self.now) }
+        ensures last { result ≡ true → terminals self.now ≡ here self.now ∷ [] }
+    {
+        match self.kind() {
+            TokenKind::End => true,
+            TokenKind::Word
+            | TokenKind::Number { .. }
+            | TokenKind::Name
+            | TokenKind::Quoted
+            | TokenKind::Punct { .. } => false,
         }
     }
 
