@@ -1,3 +1,4 @@
 pub mod GrownItems
 pub mod ItemKinds
 pub mod Options
+pub mod WholeFiles

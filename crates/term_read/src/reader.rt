@@ -16,6 +16,7 @@ use crate::fault::RuleFault;
 use crate::point::Point;
 use crate::state::State;
 
+#[derive(Drop)]
 pub struct Reader<'a> {
     pub point: Point<'a>,
     pub state: State<'a>,

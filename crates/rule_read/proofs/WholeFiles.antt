@@ -1,0 +1,160 @@
+-- A whole file is read between brackets up to the end of its text; and what is read of a text, and its first fault, are those of its rules.
+use Rattle.std.proofs.Common.{◌≡◌, ℕ, true, false, cond, List, [], ◌∷◌, length, None, Result, Ok, Err, refl, sym, ap, ◌∙◌}
+use Rattle.nir_lex.specs.declared.fault.LexFault.{LexFault}
+use Rattle.nir_lex.specs.declared.token.Token.{Token}
+use Rattle.nir_lex.specs.From.{fault_of}
+use Rattle.nir_lex.specs.Reading.{read_tokens}
+use Rattle.grammar.specs.AnyDepthLaws.{deep_is_any}
+use Rattle.grammar.specs.Grammar.{Grammar, empty, sequence}
+use Rattle.grammar.specs.Lookahead.{Lookahead}
+use Rattle.grammar.specs.Reading.{Outcome, Reading, Stop, at_end, ended, read, read_deep}
+use Rattle.grammar.specs.Terminals.{Terminal, has, TheEnd}
+use Rattle.grammar.specs.Words.{between, end, mark}
+use Rattle.rule_spelling.specs.Files.{Item, File, Expected, file_of}
+use Rattle.rule_spelling.specs.NumberedLaws.{rules_are_numbered, weights_are_good}
+use Rattle.rule_spelling.specs.RuleFiles.{rule_files, productions, file, read_file}
+use Rattle.rule_spelling.specs.Text.{TextFault, of_tokens, placed, read_text, terminals_of}
+use Rattle.rule_spelling.specs.TextLaws.{read_is_spelled}
+use Rattle.rule_spelling.specs.Tokens.{State, none_read}
+use Rattle.term_read.specs.declared.fault.RuleFault.{RuleFault}
+use Rattle.term_read.specs.declared.fault.RuleFault.TheVariants.{OutOfMemory, Lex}
+use Rattle.term_read.specs.FoldLaws.{mapped, mapped_ok, mapped_err}
+use Rattle.term_read.specs.ReadingLaws.{any, guarded_all, reads_is}
+use Rattle.term_read.specs.Source.{Source, Answer, answer, fault_at, ◌then◌, reads}
+use Rattle.term_read.specs.Standing.{all_tokens, tokens_or_none}
+use Rattle.rule_read.specs.FileText.{told, rules_of_text}
+use Rattle.rule_read.specs.Growing.{no_file, with_items}
+use Rattle.rule_read.specs.RuleFile as code
+use Rattle.rule_read.specs.Says.{file_says, file_is_good}
+use Rattle.rule_read.proofs.GrownItems.{grown_is_file}
+
+-- ---- between brackets, up to the end
+
+-- behind the closing bracket, and before it
+abbrev pub at_close : {B : Type 0} → B → Source → Answer B
+at_close b s = reads (end rule_files) s then λ _ s. Ok (b, s)
+
+abbrev pub behind_items : {B : Type 0} → B → Source → Answer B
+behind_items b s = reads (mark rule_files 93) s then λ _ s. at_close b s
+
+module _ {A B : Type 0} (f : List A → B) where
+  at_last : (a : List A) (o : Answer (Unit {0})) → mapped f (o then λ _ s. Ok (a, s)) ≡ (o then λ _ s. Ok (f a, s))
+  at_last a (Ok found) = refl
+  at_last a (Err fault) = refl
+
+  closes : (a : List A) (o : Answer (Unit {0}))
+      → mapped f ((o then λ _ s. Ok (a, s)) then λ list s. reads (end rule_files) s then λ _ s. Ok (list, s)) ≡ (o then λ _ s. at_close (f a) s)
+  closes a (Ok found) = at_last a (reads (end rule_files) found.1)
+  closes a (Err fault) = refl
+
+  has_inside : (o : Answer (List A))
+      → mapped f ((o then λ a s. reads (mark rule_files 93) s then λ _ s. Ok (a, s)) then λ list s. reads (end rule_files) s then λ _ s. Ok (list, s))
+      ≡ (mapped f o then λ b s. behind_items b s)
+  has_inside (Ok found) = closes found.0 (reads (mark rule_files 93) found.1)
+  has_inside (Err fault) = refl
+
+  module _ {p : Lookahead} (inner : Grammar rule_files p (List A)) (s t : Source) (opening : reads (mark rule_files 91) s ≡ Ok (tt, t)) where
+    pub whole_opens : mapped f (reads (sequence (between rule_files 91 93 inner) (λ list. sequence (end rule_files) (λ _. empty list))) s)
+        ≡ (mapped f (reads inner t) then λ b s. behind_items b s)
+    whole_opens =
+        ap (λ (o : Answer (Unit {0})). mapped f ((o then λ _ s. reads inner s then λ a s. reads (mark rule_files 93) s then λ _ s. Ok (a, s))
+        then λ list s. reads (end rule_files) s then λ _ s. Ok (list, s))) opening
+        ∙ has_inside (reads inner t)
+
+    module _ (b : B) (u : Source) (items : mapped f (reads inner t) ≡ Ok (b, u)) where
+      pub whole_closes : mapped f (reads (sequence (between rule_files 91 93 inner) (λ list. sequence (end rule_files) (λ _. empty list))) s) ≡ behind_items b u
+      whole_closes = whole_opens ∙ ap (λ (o : Answer B). o then λ b s. behind_items b s) items
+
+      pub whole_ends : (v : Source) → reads (mark rule_files 93) u ≡ Ok (tt, v)
+          → mapped f (reads (sequence (between rule_files 91 93 inner) (λ list. sequence (end rule_files) (λ _. empty list))) s) ≡ at_close b v
+      whole_ends v closing = whole_closes ∙ ap (λ (o : Answer (Unit {0})). o then λ _ s. at_close b s) closing
+
+pub end_reads : (s : Source) (first : Terminal) → s.rest ≡ first ∷ [] → has TheEnd first ≡ true
+    → reads (end rule_files) s ≡ Ok (tt, record { text = s.text; state = s.state; rest = [] })
+end_reads s first is here =
+    ap (λ (rest : List Terminal). reads (end rule_files) (record { text = s.text; state = s.state; rest = rest })) is ∙ (rw here refl)
+
+abbrev stopped_at : List ℕ → List Terminal → Answer (Unit {0})
+stopped_at text rest = Err (fault_at Expected text rest)
+
+pub end_stops : (s : Source) (first : Terminal) (others : List Terminal) → s.rest ≡ first ∷ others → has TheEnd first ≡ false
+    → reads (end rule_files) s ≡ Err (fault_at Expected s.text s.rest)
+end_stops s first others is other =
+    ap (λ (rest : List Terminal). reads (end rule_files) (record { text = s.text; state = s.state; rest = rest })) is
+    ∙ (rw other refl)
+    ∙ ap (stopped_at s.text) (sym is)
+
+-- ---- texts
+
+abbrev pub start : List ℕ → Source
+start text = record { text = text; state = none_read; rest = terminals_of text (all_tokens text) }
+
+tokens_are : (r : Result (List Token) LexFault) → fault_of r ≡ None → r ≡ Ok (tokens_or_none r)
+tokens_are (Ok tokens) is = refl
+tokens_are (Err fault) is = absurd cc
+
+text_is : (text : List ℕ) → fault_of (read_tokens text) ≡ None → read_text text ≡ placed (all_tokens text) (ended rule_files (read rule_files any file none_read (terminals_of text (all_tokens text))))
+unfolding read_text read_file
+text_is text is =
+    ap (of_tokens text) (tokens_are (read_tokens text) is)
+    ∙ ap (placed (all_tokens text)) (deep_is_any rule_files productions guarded_all file none_read (terminals_of text (all_tokens text)))
+
+abbrev read_as : List Item → Result (List Item) TextFault
+read_as items = Ok items
+
+abbrev same_fault : Answer File → Result File RuleFault
+same_fault (Ok found) = Err OutOfMemory
+same_fault (Err fault) = Err fault
+
+abbrev read_pair : List Item × Source → Answer (List Item)
+read_pair p = Ok p
+
+pair_same : (p q : List Item × Source) → read_pair p ≡ read_pair q → p ≡ q
+pair_same p q e = cc
+
+-- all was read
+all_read : (text : List ℕ) (o : Outcome rule_files (List Item)) (items : List Item) (z : State) → answer text o ≡ Ok (items, record { text = text; state = z; rest = [] })
+    → placed (all_tokens text) (ended rule_files o) ≡ Ok items
+all_read text (Ok found) items z e =
+    let same = pair_same (found.value, record { text = text; state = found.state; rest = found.rest }) (items, record { text = text; state = z; rest = [] }) e in
+    ap (λ (rest : List Terminal). placed (all_tokens text) (at_end rule_files found.value found.state rest)) (ap (λ (p : List Item × Source). p.1.rest) same)
+    ∙ ap (λ (p : List Item × Source). read_as p.0) same
+all_read text (Err stop) items z e = absurd cc
+
+fault_told : (text : List ℕ) (o : Outcome rule_files (List Item)) (fault : RuleFault) → mapped (with_items no_file) (answer text o) ≡ Err fault
+    → told (placed (all_tokens text) (ended rule_files o)) ≡ Err fault
+fault_told text (Ok found) fault e = absurd cc
+fault_told text (Err stop) fault e = ap same_fault e
+
+module _ (text : List ℕ) (has_tokens : fault_of (read_tokens text) ≡ None) where
+  outcome : mapped (with_items no_file) (reads file (start text)) ≡ mapped (with_items no_file) (answer text (read rule_files any file none_read (terminals_of text (all_tokens text))))
+  outcome = ap (mapped (with_items no_file)) (reads_is file (start text))
+
+  items_told : (found : File) (z : State) → mapped (with_items no_file) (reads file (start text)) ≡ Ok (found, record { text = text; state = z; rest = [] })
+      → (items : List Item) × (read_text text ≡ Ok items) × (file_of items ≡ found)
+  items_told found z e =
+      let o = answer text (read rule_files any file none_read (terminals_of text (all_tokens text))) in
+      let all = mapped_ok (with_items no_file) o found (record { text = text; state = z; rest = [] }) (sym outcome ∙ e) in
+      (all.0, text_is text has_tokens ∙ all_read text (read rule_files any file none_read (terminals_of text (all_tokens text))) all.0 z all.1, sym (grown_is_file all.0) ∙ all.2)
+
+  pub rules_told : (found : File) (z : State) → mapped (with_items no_file) (reads file (start text)) ≡ Ok (found, record { text = text; state = z; rest = [] })
+      → rules_of_text text ≡ Ok found
+  unfolding rules_of_text
+  rules_told found z e =
+      let all = items_told found z e in
+      ap told all.1 ∙ ap (λ (f : File). the_file f) all.2
+    where
+      the_file : File → Result File RuleFault
+      the_file f = Ok f
+
+  pub rules_fail : (fault : RuleFault) → mapped (with_items no_file) (reads file (start text)) ≡ Err fault → rules_of_text text ≡ Err fault
+  unfolding rules_of_text
+  rules_fail fault e =
+      ap told (text_is text has_tokens) ∙ fault_told text (read rule_files any file none_read (terminals_of text (all_tokens text))) fault (sym outcome ∙ e)
+
+  pub file_good : (whole : code.RuleFile) (z : State) → mapped (with_items no_file) (reads file (start text)) ≡ Ok (file_says whole, record { text = text; state = z; rest = [] })
+      → code.IsRuleFile whole
+  file_good whole z e =
+      let all = items_told (file_says whole) z e in
+      let says = read_is_spelled text all.0 all.1 in
+      file_is_good whole all.0 (sym all.2) (rules_are_numbered text all.0 says) (weights_are_good text all.0 says)
