@@ -1,7 +1,7 @@
 -- How items are read, by the terminal with which each begins.
 use Rattle.std.proofs.Common.{◌≡◌, Bool, true, false, ◌||◌, [], ◌∷◌, codes, refl, sym, ap, ◌∙◌}
 use Rattle.grammar.specs.Grammar.{choice}
-use Rattle.grammar.specs.Terminals.{Terminal, has, starts, TheMark, TheWord}
+use Rattle.grammar.specs.Terminals.{starts, TheMark, TheWord}
 use Rattle.grammar.specs.Words.{each_behind_comma_then_maybe_one, listed, maybe_none}
 use Rattle.rule_spelling.specs.Files.{File}
 use Rattle.rule_spelling.specs.RuleFiles.{rule_files, evidence, item, rule, weight}

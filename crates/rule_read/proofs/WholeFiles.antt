@@ -1,5 +1,5 @@
 -- A whole file is read between brackets up to the end of its text; and what is read of a text, and its first fault, are those of its rules.
-use Rattle.std.proofs.Common.{◌≡◌, ℕ, true, false, cond, List, [], ◌∷◌, length, None, Result, Ok, Err, refl, sym, ap, ◌∙◌}
+use Rattle.std.proofs.Common.{◌≡◌, ℕ, true, false, List, [], ◌∷◌, Option, Some, None, Result, Ok, Err, refl, sym, ap, ◌∙◌}
 use Rattle.nir_lex.specs.declared.fault.LexFault.{LexFault}
 use Rattle.nir_lex.specs.declared.token.Token.{Token}
 use Rattle.nir_lex.specs.From.{fault_of}
@@ -7,7 +7,7 @@ use Rattle.nir_lex.specs.Reading.{read_tokens}
 use Rattle.grammar.specs.AnyDepthLaws.{deep_is_any}
 use Rattle.grammar.specs.Grammar.{Grammar, empty, sequence}
 use Rattle.grammar.specs.Lookahead.{Lookahead}
-use Rattle.grammar.specs.Reading.{Outcome, Reading, Stop, at_end, ended, read, read_deep}
+use Rattle.grammar.specs.Reading.{Outcome, at_end, ended, read}
 use Rattle.grammar.specs.Terminals.{Terminal, has, TheEnd}
 use Rattle.grammar.specs.Words.{between, end, mark}
 use Rattle.rule_spelling.specs.Files.{Item, File, Expected, file_of}
@@ -18,7 +18,7 @@ use Rattle.rule_spelling.specs.TextLaws.{read_is_spelled}
 use Rattle.rule_spelling.specs.Tokens.{State, none_read}
 use Rattle.term_read.specs.declared.fault.RuleFault.{RuleFault}
 use Rattle.term_read.specs.declared.fault.RuleFault.TheVariants.{OutOfMemory, Lex}
-use Rattle.term_read.specs.FoldLaws.{mapped, mapped_ok, mapped_err}
+use Rattle.term_read.specs.FoldLaws.{mapped, mapped_ok}
 use Rattle.term_read.specs.ReadingLaws.{any, guarded_all, reads_is}
 use Rattle.term_read.specs.Source.{Source, Answer, answer, fault_at, ◌then◌, reads}
 use Rattle.term_read.specs.Standing.{all_tokens, tokens_or_none}
@@ -113,48 +113,65 @@ pair_same : (p q : List Item × Source) → read_pair p ≡ read_pair q → p �
 pair_same p q e = cc
 
 -- all was read
-all_read : (text : List ℕ) (o : Outcome rule_files (List Item)) (items : List Item) (z : State) → answer text o ≡ Ok (items, record { text = text; state = z; rest = [] })
-    → placed (all_tokens text) (ended rule_files o) ≡ Ok items
-all_read text (Ok found) items z e =
-    let same = pair_same (found.value, record { text = text; state = found.state; rest = found.rest }) (items, record { text = text; state = z; rest = [] }) e in
+all_read : (text : List ℕ) (o : Outcome rule_files (List Item)) (items : List Item) (other : List ℕ) (z : State)
+    → answer text o ≡ Ok (items, record { text = other; state = z; rest = [] }) → placed (all_tokens text) (ended rule_files o) ≡ Ok items
+all_read text (Ok found) items other z e =
+    let same = pair_same (found.value, record { text = text; state = found.state; rest = found.rest }) (items, record { text = other; state = z; rest = [] }) e in
     ap (λ (rest : List Terminal). placed (all_tokens text) (at_end rule_files found.value found.state rest)) (ap (λ (p : List Item × Source). p.1.rest) same)
     ∙ ap (λ (p : List Item × Source). read_as p.0) same
-all_read text (Err stop) items z e = absurd cc
+all_read text (Err stop) items other z e = absurd cc
 
 fault_told : (text : List ℕ) (o : Outcome rule_files (List Item)) (fault : RuleFault) → mapped (with_items no_file) (answer text o) ≡ Err fault
     → told (placed (all_tokens text) (ended rule_files o)) ≡ Err fault
 fault_told text (Ok found) fault e = absurd cc
 fault_told text (Err stop) fault e = ap same_fault e
 
-module _ (text : List ℕ) (has_tokens : fault_of (read_tokens text) ≡ None) where
-  outcome : mapped (with_items no_file) (reads file (start text)) ≡ mapped (with_items no_file) (answer text (read rule_files any file none_read (terminals_of text (all_tokens text))))
-  outcome = ap (mapped (with_items no_file)) (reads_is file (start text))
+abbrev the_file : File → Result File RuleFault
+the_file f = Ok f
 
-  items_told : (found : File) (z : State) → mapped (with_items no_file) (reads file (start text)) ≡ Ok (found, record { text = text; state = z; rest = [] })
+abbrev some_fault : LexFault → Option LexFault
+some_fault fault = Some fault
+
+abbrev no_tokens : LexFault → Result (List Token) LexFault
+no_tokens fault = Err fault
+
+module _ (text : List ℕ) (has_tokens : fault_of (read_tokens text) ≡ None) (s : Source) (is : s ≡ start text) where
+  outcome : mapped (with_items no_file) (reads file s) ≡ mapped (with_items no_file) (answer text (read rule_files any file none_read (terminals_of text (all_tokens text))))
+  outcome = ap (λ (s : Source). mapped (with_items no_file) (reads file s)) is ∙ ap (mapped (with_items no_file)) (reads_is file (start text))
+
+  items_told : (found : File) (other : List ℕ) (z : State) → mapped (with_items no_file) (reads file s) ≡ Ok (found, record { text = other; state = z; rest = [] })
       → (items : List Item) × (read_text text ≡ Ok items) × (file_of items ≡ found)
-  items_told found z e =
-      let o = answer text (read rule_files any file none_read (terminals_of text (all_tokens text))) in
-      let all = mapped_ok (with_items no_file) o found (record { text = text; state = z; rest = [] }) (sym outcome ∙ e) in
-      (all.0, text_is text has_tokens ∙ all_read text (read rule_files any file none_read (terminals_of text (all_tokens text))) all.0 z all.1, sym (grown_is_file all.0) ∙ all.2)
+  items_told found other z e =
+      let o = read rule_files any file none_read (terminals_of text (all_tokens text)) in
+      let all = mapped_ok (with_items no_file) (answer text o) found (record { text = other; state = z; rest = [] }) (sym outcome ∙ e) in
+      (all.0, text_is text has_tokens ∙ all_read text o all.0 other z all.1, sym (grown_is_file all.0) ∙ all.2)
 
-  pub rules_told : (found : File) (z : State) → mapped (with_items no_file) (reads file (start text)) ≡ Ok (found, record { text = text; state = z; rest = [] })
+  pub rules_told : (found : File) (other : List ℕ) (z : State) → mapped (with_items no_file) (reads file s) ≡ Ok (found, record { text = other; state = z; rest = [] })
       → rules_of_text text ≡ Ok found
   unfolding rules_of_text
-  rules_told found z e =
-      let all = items_told found z e in
-      ap told all.1 ∙ ap (λ (f : File). the_file f) all.2
-    where
-      the_file : File → Result File RuleFault
-      the_file f = Ok f
+  rules_told found other z e = let all = items_told found other z e in ap told all.1 ∙ ap the_file all.2
 
-  pub rules_fail : (fault : RuleFault) → mapped (with_items no_file) (reads file (start text)) ≡ Err fault → rules_of_text text ≡ Err fault
+  pub rules_fail : (fault : RuleFault) → mapped (with_items no_file) (reads file s) ≡ Err fault → rules_of_text text ≡ Err fault
   unfolding rules_of_text
   rules_fail fault e =
       ap told (text_is text has_tokens) ∙ fault_told text (read rule_files any file none_read (terminals_of text (all_tokens text))) fault (sym outcome ∙ e)
 
-  pub file_good : (whole : code.RuleFile) (z : State) → mapped (with_items no_file) (reads file (start text)) ≡ Ok (file_says whole, record { text = text; state = z; rest = [] })
+  pub file_good : (whole : code.RuleFile) (other : List ℕ) (z : State)
+      → mapped (with_items no_file) (reads file s) ≡ Ok (file_says whole, record { text = other; state = z; rest = [] })
       → code.IsRuleFile whole
-  file_good whole z e =
-      let all = items_told (file_says whole) z e in
+  file_good whole other z e =
+      let all = items_told (file_says whole) other z e in
       let says = read_is_spelled text all.0 all.1 in
       file_is_good whole all.0 (sym all.2) (rules_are_numbered text all.0 says) (weights_are_good text all.0 says)
+
+-- no tokens
+pub lex_told : (text : List ℕ) (fault : LexFault) → fault_of (read_tokens text) ≡ Some fault → rules_of_text text ≡ Err (Lex fault)
+unfolding read_text rules_of_text
+lex_told text fault is = ap (λ (r : Result (List Token) LexFault). told (of_tokens text r)) (fault_is (read_tokens text) is)
+  where
+    some_same : (a b : LexFault) → some_fault a ≡ some_fault b → a ≡ b
+    some_same a b e = cc
+
+    fault_is : (r : Result (List Token) LexFault) → fault_of r ≡ Some fault → r ≡ Err fault
+    fault_is (Ok tokens) is = absurd cc
+    fault_is (Err other) is = ap no_tokens (some_same other fault is)

@@ -77,11 +77,7 @@ fn begins_item(at: &Point<'_>) -> bool
 }
 
 /// An item: a weight, a rule, or a line of evidence.
-fn item_into<'a>(
-    alloc: Global,
-    grown: &mut Grown,
-    reader: &mut Reader<'a>,
-) -> Result<(), RuleFault>
+fn item_into<'a>(alloc: Global, grown: &mut Grown, reader: &mut Reader<'a>) -> Result<(), RuleFault>
     ensures { Gives (λ _. (grown_says grown.new, source reader.new)) result (mapped (with_item (grown_says grown.old)) (reads item (source reader.old))) }
 {
     if reader.point.is_word(b"weight") {
@@ -103,11 +99,7 @@ fn weight_into<'a>(grown: &mut Grown, reader: &mut Reader<'a>) -> Result<(), Rul
 }
 
 /// A rule.
-fn rule_into<'a>(
-    alloc: Global,
-    grown: &mut Grown,
-    reader: &mut Reader<'a>,
-) -> Result<(), RuleFault>
+fn rule_into<'a>(alloc: Global, grown: &mut Grown, reader: &mut Reader<'a>) -> Result<(), RuleFault>
     ensures { Gives (λ _. (grown_says grown.new, source reader.new)) result (mapped (with_item (grown_says grown.old)) (reads rule (source reader.old))) }
 {
     let rule = rule(alloc, reader)?;
@@ -116,11 +108,7 @@ fn rule_into<'a>(
 }
 
 /// A line of evidence.
-fn line_into<'a>(
-    alloc: Global,
-    grown: &mut Grown,
-    reader: &mut Reader<'a>,
-) -> Result<(), RuleFault>
+fn line_into<'a>(alloc: Global, grown: &mut Grown, reader: &mut Reader<'a>) -> Result<(), RuleFault>
     ensures { Gives (λ _. (grown_says grown.new, source reader.new)) result (mapped (with_item (grown_says grown.old)) (reads evidence (source reader.old))) }
 {
     let line = evidence(alloc, reader)?;

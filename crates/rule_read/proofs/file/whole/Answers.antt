@@ -1,7 +1,7 @@
-use Rattle.std.proofs.Common.{◌≡◌, Ok, refl, sym, ap, ◌∙◌}
+use Rattle.std.proofs.Common.{Ok, refl, sym, ap, ◌∙◌}
 use Rattle.std.proofs.lemmas.Result.{err_from_is_err_and}
 use Rattle.nir_lex.specs.From.{tokens_behind}
-use Rattle.grammar.specs.Words.{end, listed, mark, maybe_none}
+use Rattle.grammar.specs.Words.{listed, mark, maybe_none}
 use Rattle.rule_spelling.specs.Files.{File}
 use Rattle.rule_spelling.specs.RuleFiles.{rule_files, file, item}
 use Rattle.rule_spelling.specs.Text.{terminals_of}

@@ -1,10 +1,10 @@
-use Rattle.std.proofs.Common.{◌≡◌, true, sym, ap, ◌∙◌}
+use Rattle.std.proofs.Common.{◌≡◌, sym, ap, ◌∙◌}
 use Rattle.std.proofs.lemmas.Result.{err_from_is_err_and}
 use Rattle.grammar.specs.Words.{each_behind_comma_then_maybe_one, listed, maybe_none}
 use Rattle.rule_spelling.specs.Files.{File}
 use Rattle.rule_spelling.specs.RuleFiles.{rule_files, item}
 use Rattle.term_read.specs.FoldLaws.{mapped}
-use Rattle.term_read.specs.ReadingLaws.{fails, fails_then}
+use Rattle.term_read.specs.ReadingLaws.{fails}
 use Rattle.term_read.specs.Source.{Answer, ◌then◌, reads}
 use Rattle.term_read.specs.Views.{source}
 use Rattle.rule_read.specs.Growing.{grown_says, no_file, with_item, with_items}

@@ -1,4 +1,4 @@
-use Rattle.std.proofs.Common.{◌≡◌, ◌≤◌, length}
+use Rattle.std.proofs.Common.{◌≡◌, length}
 use Rattle.grammar.specs.Grammar.{repetition}
 use Rattle.grammar.specs.Words.{each_behind_comma_then_maybe_one}
 use Rattle.rule_spelling.specs.RuleFiles.{rule_files, item}
