@@ -1,4 +1,5 @@
 pub mod GrownItems
 pub mod ItemKinds
+pub mod ListLaws
 pub mod Options
 pub mod WholeFiles

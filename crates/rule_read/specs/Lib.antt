@@ -1,3 +1,4 @@
+pub mod Evidence
 pub mod FileText
 pub mod Growing
 pub mod Items

@@ -8,8 +8,11 @@ mod evidence;
 mod file;
 mod grown;
 mod items;
+mod list;
+mod number;
 mod rule;
 mod rule_file;
+mod steps;
 mod weight;
 
 pub use derivation::{Binding, Bindings, Derivation, DeriveStep, Path};

@@ -135,6 +135,3 @@ expr_other place text x first others here =
 pub says_append : (list : List Term) (term : Term) → map term_says (list ++ term ∷ []) ≡ map term_says list ++ term_says term ∷ []
 says_append [] term = refl
 says_append (first ∷ list) term = ap (λ (rest : List Terms). term_says first ∷ rest) (says_append list term)
-
-pub less_from : (a b : ℕ) → a + 1 ≤ b → a < b
-less_from a b l = omega (arith, l)

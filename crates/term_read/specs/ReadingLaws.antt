@@ -1,5 +1,5 @@
 -- Laws of reading what is left of a text: a nonterminal is read by its production, and a repetition item by item.
-use Rattle.std.proofs.Common.{◌≡◌, ℕ, zero, suc, ◌+◌, ◌≤◌, Bool, true, false, cond, List, [], ◌∷◌, ◌++◌, length, Option, Some, None, Result, Ok, Err, refl, sym, ap, ◌∙◌, subst, append_assoc, arith}
+use Rattle.std.proofs.Common.{◌≡◌, ℕ, zero, suc, ◌+◌, ◌≤◌, ◌<◌, Bool, true, false, cond, List, [], ◌∷◌, ◌++◌, length, Option, Some, None, Result, Ok, Err, refl, sym, ap, ◌∙◌, subst, append_assoc, arith}
 use Rattle.std.proofs.lemmas.List.{append-nil}
 use Rattle.rule_term.specs.Terms.{Terms}
 use Rattle.grammar.specs.AnyDepthLaws.{read_any, named_is_production}
@@ -99,6 +99,9 @@ shorter {p = p} g s a s' is =
     (λ f e. read_takes rule_files any (λ n x ts f e. depth_takes rule_files productions (suc (length ts)) n x ts f e) g s.state s.rest f e)
     (sym (reads_is g s) ∙ is)
 
+pub less_from : (a b : ℕ) → a + 1 ≤ b → a < b
+less_from a b l = omega (arith, l)
+
 -- ---- repetitions
 
 abbrev Takes : {A : Type 0} → (Source → Answer (Option A)) → Type 0
@@ -159,7 +162,7 @@ each_ends {p = p} g s none = ends (length s.rest) refl
 abbrev pub with_front : {A : Type 0} → List A → Answer (List A) → Answer (List A)
 with_front front o = o then λ list s. Ok (front ++ list, s)
 
-regroup : {A : Type 0} (front : List A) (a : A) (o : Answer (List A)) → with_front front (o then λ list s. Ok (a ∷ list, s)) ≡ with_front (front ++ a ∷ []) o
+pub regroup : {A : Type 0} (front : List A) (a : A) (o : Answer (List A)) → with_front front (o then λ list s. Ok (a ∷ list, s)) ≡ with_front (front ++ a ∷ []) o
 regroup front a (Ok found) = ap (λ list. Ok (list, found.1)) (sym (append_assoc front (a ∷ []) found.0))
 regroup front a (Err fault) = refl
 

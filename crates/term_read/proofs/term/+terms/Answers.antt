@@ -13,8 +13,8 @@ use Rattle.term_read.specs.Parts.{leaf, sought_source}
 use Rattle.term_read.specs.Source.{Answer, reads, reads_named}
 use Rattle.term_read.specs.Standing.{tokens_or_none}
 use Rattle.term_read.specs.Views.{head_says, here, place_of, source, term_says, terminals}
-use Rattle.term_read.specs.ReadingLaws.{with_front, no_front, loop_goes, loop_closes, loop_fails, loop_ends, fails, shorter}
-use Rattle.term_read.proofs.Terms.{or_true, or_false, expr_mark, expr_other, says_append, less_from}
+use Rattle.term_read.specs.ReadingLaws.{with_front, no_front, loop_goes, loop_closes, loop_fails, loop_ends, fails, less_from, shorter}
+use Rattle.term_read.proofs.Terms.{or_true, or_false, expr_mark, expr_other, says_append}
 use Rattle.term_read.proofs.term.+terms.Goals as goal
 
 pub app-sources-requires : goal.app-sources-requires
