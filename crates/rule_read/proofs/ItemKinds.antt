@@ -2,13 +2,13 @@
 use Rattle.std.proofs.Common.{◌≡◌, Bool, true, false, ◌||◌, [], ◌∷◌, codes, refl, sym, ap, ◌∙◌}
 use Rattle.grammar.specs.Grammar.{choice}
 use Rattle.grammar.specs.Terminals.{starts, TheMark, TheWord}
-use Rattle.grammar.specs.Words.{each_behind_comma_then_maybe_one, listed, maybe_none}
+use Rattle.grammar.specs.Words.{listed}
 use Rattle.rule_spelling.specs.Files.{File}
 use Rattle.rule_spelling.specs.RuleFiles.{rule_files, evidence, item, rule, weight}
 use Rattle.term_read.specs.FoldLaws.{first_reads, second_reads, some_reads, listed_folds, mapped}
 use Rattle.term_read.specs.Source.{Source, ◌then◌, reads}
 use Rattle.rule_read.specs.Growing.{no_file, with_item, with_items}
-use Rattle.rule_read.specs.Items.{item_firsts}
+use Rattle.rule_read.specs.Items.{adds_item, adds_items, all_items, item_firsts, other_items}
 
 -- one class
 pub one_starts : (b here : Bool) → here ≡ b → (here || false) ≡ b
@@ -28,9 +28,9 @@ item_line s other no_mark = second_reads s refl weight (choice rule evidence) ot
 
 -- the items of a file: the first, and then the others
 pub items_read : (file : File) (s : Source) → file ≡ no_file → starts item_firsts s.rest ≡ true
-    → mapped (with_items no_file) (reads (maybe_none rule_files (listed rule_files item)) s)
-    ≡ (mapped (with_item file) (reads item s) then λ b s. mapped (with_items b) (reads (each_behind_comma_then_maybe_one rule_files item) s))
+    → adds_items no_file all_items s
+    ≡ (adds_item file item s then λ b s. adds_items b other_items s)
 items_read file s none begun =
     ap (mapped (with_items no_file)) (some_reads s refl (listed rule_files item) begun)
     ∙ listed_folds with_items with_item (λ b. refl) (λ b a list. refl) item no_file s
-    ∙ ap (λ (f : File). mapped (with_item f) (reads item s) then λ b s. mapped (with_items b) (reads (each_behind_comma_then_maybe_one rule_files item) s)) (sym none)
+    ∙ ap (λ (f : File). adds_item f item s then λ b s. adds_items b other_items s) (sym none)

@@ -1,13 +1,11 @@
 //! Whole rule files.
 
-ghost use Rattle.std.specs.Prelude.{[]};
 ghost use Rattle.rule_spelling.specs.RuleFiles.{file};
-ghost use Rattle.term_read.specs.FoldLaws.{mapped};
 ghost use Rattle.term_read.specs.Gives.{Gives};
-ghost use Rattle.term_read.specs.Source.{reads};
 ghost use Rattle.term_read.specs.Views.{source};
 ghost use Rattle.rule_read.specs.FileText.{rules_of_text};
-ghost use Rattle.rule_read.specs.Growing.{grown_says, no_file, with_items};
+ghost use Rattle.rule_read.specs.Growing.{grown_says, no_file};
+ghost use Rattle.rule_read.specs.Items.{adds_items, read_up};
 ghost use Rattle.rule_read.specs.Says.{file_says};
 
 use crate::grown::Grown;
@@ -38,7 +36,7 @@ pub fn read_rules(alloc: Global, text: &[u8]) -> Result<RuleFile, RuleFault>
 
 /// A whole file: items between brackets, and then the end of the text.
 fn whole<'a>(alloc: Global, reader: &mut Reader<'a>) -> Result<Grown, RuleFault>
-    ensures { Gives (λ x. (grown_says x, record { text = reader.new.point.text.now; state = reader.new.state; rest = [] })) result (mapped (with_items no_file) (reads file (source reader.old))) }
+    ensures { Gives (λ x. (grown_says x, read_up reader.new)) result (adds_items no_file file (source reader.old)) }
 {
     reader.mark(b'[')?;
     let grown = items(alloc, reader)?;

@@ -2,14 +2,11 @@
 
 ghost use Rattle.std.specs.Prelude.{◌≡◌};
 ghost use Rattle.grammar.specs.Terminals.{starts};
-ghost use Rattle.grammar.specs.Words.{each_behind_comma_then_maybe_one, listed, maybe_none};
-ghost use Rattle.rule_spelling.specs.RuleFiles.{rule_files, evidence, item, rule, weight};
-ghost use Rattle.term_read.specs.FoldLaws.{added, mapped};
+ghost use Rattle.rule_spelling.specs.RuleFiles.{evidence, item, rule, weight};
 ghost use Rattle.term_read.specs.Gives.{Gives};
-ghost use Rattle.term_read.specs.Source.{reads};
 ghost use Rattle.term_read.specs.Views.{source, terminals};
-ghost use Rattle.rule_read.specs.Growing.{grown_says, no_file, with_item, with_items};
-ghost use Rattle.rule_read.specs.Items.{item_firsts, sought_item};
+ghost use Rattle.rule_read.specs.Growing.{grown_says, no_file};
+ghost use Rattle.rule_read.specs.Items.{adds_item, adds_items, adds_sought, all_items, item_firsts, other_items, sought_item};
 
 use crate::evidence::evidence;
 use crate::grown::Grown;
@@ -20,7 +17,7 @@ use term_read::{Point, Reader, RuleFault};
 
 /// The items of a file, or none.
 pub fn items<'a>(alloc: Global, reader: &mut Reader<'a>) -> Result<Grown, RuleFault>
-    ensures { Gives (λ x. (grown_says x, source reader.new)) result (mapped (with_items no_file) (reads (maybe_none rule_files (listed rule_files item)) (source reader.old))) }
+    ensures { Gives (λ x. (grown_says x, source reader.new)) result (adds_items no_file all_items (source reader.old)) }
 {
     let mut grown = Grown::new(alloc);
     if !begins_item(&reader.point) {
@@ -37,7 +34,7 @@ fn others_into<'a>(
     grown: &mut Grown,
     reader: &mut Reader<'a>,
 ) -> Result<(), RuleFault>
-    ensures { Gives (λ _. (grown_says grown.new, source reader.new)) result (mapped (with_items (grown_says grown.old)) (reads (each_behind_comma_then_maybe_one rule_files item) (source reader.old))) }
+    ensures { Gives (λ _. (grown_says grown.new, source reader.new)) result (adds_items (grown_says grown.old) other_items (source reader.old)) }
 {
     'items: while reader.point.is_mark(b',') {
         if !next_item(alloc, grown, reader)? {
@@ -53,7 +50,7 @@ fn next_item<'a>(
     grown: &mut Grown,
     reader: &mut Reader<'a>,
 ) -> Result<bool, RuleFault>
-    ensures { Gives (λ more. ((more, grown_says grown.new), source reader.new)) result (mapped (added with_item (grown_says grown.old)) (reads sought_item (source reader.old))) }
+    ensures { Gives (λ more. ((more, grown_says grown.new), source reader.new)) result (adds_sought (grown_says grown.old) sought_item (source reader.old)) }
 {
     reader.mark(b',')?;
     if !begins_item(&reader.point) {
@@ -78,7 +75,7 @@ fn begins_item(at: &Point<'_>) -> bool
 
 /// An item: a weight, a rule, or a line of evidence.
 fn item_into<'a>(alloc: Global, grown: &mut Grown, reader: &mut Reader<'a>) -> Result<(), RuleFault>
-    ensures { Gives (λ _. (grown_says grown.new, source reader.new)) result (mapped (with_item (grown_says grown.old)) (reads item (source reader.old))) }
+    ensures { Gives (λ _. (grown_says grown.new, source reader.new)) result (adds_item (grown_says grown.old) item (source reader.old)) }
 {
     if reader.point.is_word(b"weight") {
         return weight_into(grown, reader);
@@ -91,7 +88,7 @@ fn item_into<'a>(alloc: Global, grown: &mut Grown, reader: &mut Reader<'a>) -> R
 
 /// A weight.
 fn weight_into<'a>(grown: &mut Grown, reader: &mut Reader<'a>) -> Result<(), RuleFault>
-    ensures { Gives (λ _. (grown_says grown.new, source reader.new)) result (mapped (with_item (grown_says grown.old)) (reads weight (source reader.old))) }
+    ensures { Gives (λ _. (grown_says grown.new, source reader.new)) result (adds_item (grown_says grown.old) weight (source reader.old)) }
 {
     let line = weight(reader)?;
     grown.add_weight(line)?;
@@ -100,7 +97,7 @@ fn weight_into<'a>(grown: &mut Grown, reader: &mut Reader<'a>) -> Result<(), Rul
 
 /// A rule.
 fn rule_into<'a>(alloc: Global, grown: &mut Grown, reader: &mut Reader<'a>) -> Result<(), RuleFault>
-    ensures { Gives (λ _. (grown_says grown.new, source reader.new)) result (mapped (with_item (grown_says grown.old)) (reads rule (source reader.old))) }
+    ensures { Gives (λ _. (grown_says grown.new, source reader.new)) result (adds_item (grown_says grown.old) rule (source reader.old)) }
 {
     let rule = rule(alloc, reader)?;
     grown.add_rule(alloc, rule)?;
@@ -109,7 +106,7 @@ fn rule_into<'a>(alloc: Global, grown: &mut Grown, reader: &mut Reader<'a>) -> R
 
 /// A line of evidence.
 fn line_into<'a>(alloc: Global, grown: &mut Grown, reader: &mut Reader<'a>) -> Result<(), RuleFault>
-    ensures { Gives (λ _. (grown_says grown.new, source reader.new)) result (mapped (with_item (grown_says grown.old)) (reads evidence (source reader.old))) }
+    ensures { Gives (λ _. (grown_says grown.new, source reader.new)) result (adds_item (grown_says grown.old) evidence (source reader.old)) }
 {
     let line = evidence(alloc, reader)?;
     grown.add_line(line)?;

@@ -84,10 +84,12 @@ first_is p q rest b never begun =
 
 module _ {p : Lookahead} {A : Type 0} (s : Source) (never : p.nullable ≡ false) where
   -- the first of two grammars is read where one of its texts begins, else the second
-  pub first_reads : {q : Lookahead} (g : Grammar rule_files p A) (h : Grammar rule_files q A) → starts p.firsts s.rest ≡ true → reads (choice g h) s ≡ reads g s
+  pub first_reads : {q : Lookahead} (g : Grammar rule_files p A) (h : Grammar rule_files q A) → starts p.firsts s.rest ≡ true
+      → reads (choice g h) s ≡ reads g s
   first_reads {q = q} g h begun = cond_true (takes_first rule_files p q s.rest) _ _ _ (first_is p q s.rest true never begun) refl
 
-  pub second_reads : {q : Lookahead} (g : Grammar rule_files p A) (h : Grammar rule_files q A) → starts p.firsts s.rest ≡ false → reads (choice g h) s ≡ reads h s
+  pub second_reads : {q : Lookahead} (g : Grammar rule_files p A) (h : Grammar rule_files q A) → starts p.firsts s.rest ≡ false
+      → reads (choice g h) s ≡ reads h s
   second_reads {q = q} g h none = cond_false (takes_first rule_files p q s.rest) _ _ _ (first_is p q s.rest false never none) refl
 
   -- an item or none
@@ -152,7 +154,8 @@ module _ {A B : Type 0} (fold : B → List A → B) (step : B → A → B) (nil 
   abbrev goes : (Source → Answer (List A)) → Bool → B → Source → Answer B
   goes others found b s = cond found (mapped (fold b) (others s)) (Ok (b, s))
 
-  turn : (b b' : B) (more_found : Bool) (s' : Source) (o : Answer (Option A)) (others : Source → Answer (List A)) → mapped (added step b) o ≡ Ok ((more_found, b'), s')
+  turn : (b b' : B) (more_found : Bool) (s' : Source) (o : Answer (Option A)) (others : Source → Answer (List A))
+      → mapped (added step b) o ≡ Ok ((more_found, b'), s')
       → mapped (fold b) (o then λ found s. item_then found s others) ≡ goes others more_found b' s'
   turn b b' more_found s' (Ok (None, s)) others e =
       ap (λ b. gave (b, s)) (nil b)
@@ -174,7 +177,8 @@ module _ {A B : Type 0} (fold : B → List A → B) (step : B → A → B) (nil 
     pub fold_fails : (fault : RuleFault) → starts p.firsts s.rest ≡ true → mapped (added step b) (reads g s) ≡ Err fault → total ≡ Err fault
     fold_fails fault begun is =
         sym so_far
-        ∙ ap (mapped (fold b)) (each_goes g s never begun ∙ ap (λ o. o then λ found s'. item_then found s' (reads (repetition g))) (mapped_err (added step b) (reads g s) fault is))
+        ∙ ap (mapped (fold b)) (each_goes g s never begun
+        ∙ ap (λ o. o then λ found s'. item_then found s' (reads (repetition g))) (mapped_err (added step b) (reads g s) fault is))
 
     -- no item begins
     pub fold_ends : starts p.firsts s.rest ≡ false → total ≡ Ok (b, s)

@@ -2,12 +2,12 @@ use Rattle.std.proofs.Common.{◌≡◌, sym, ◌∙◌}
 use Rattle.std.proofs.lemmas.Result.{err_from_is_err_and}
 use Rattle.rule_spelling.specs.Files.{File}
 use Rattle.rule_spelling.specs.RuleFiles.{file}
-use Rattle.term_read.specs.FoldLaws.{mapped}
 use Rattle.term_read.specs.ReadingLaws.{fails}
-use Rattle.term_read.specs.Source.{Answer, Source, reads}
+use Rattle.term_read.specs.Source.{Answer, Source}
 use Rattle.term_read.specs.Views.{source}
 use Rattle.rule_read.specs.FileText.{rules_of_text}
-use Rattle.rule_read.specs.Growing.{grown_says, no_file, with_items}
+use Rattle.rule_read.specs.Growing.{grown_says, no_file}
+use Rattle.rule_read.specs.Items.{adds_items}
 use Rattle.rule_read.proofs.WholeFiles.{file_good, lex_told, rules_fail, rules_told, start}
 use Rattle.rule_read.proofs.file.read_rules.Goals as goal
 
@@ -20,7 +20,7 @@ returns-in_err-grown c =
     let text = c.args.text.now in
     let s : Source = source (record { point = c.first.result; state = c.new.result }) in
     let is : s ≡ start text = λ i. record { text = c.first.ensures.text i; state = c.new.ensures i; rest = c.first.ensures.all i } in
-    let part : Answer File = mapped (with_items no_file) (reads file s) in
+    let part : Answer File = adds_items no_file file s in
     rw (q.1, q.2)
     (fails c.in_err-grown.field-0.0 part (rules_of_text text)
     (λ fault e. rules_fail text (sym c.first_fault.ensures.exact ∙ c.in_default.is) s is fault e) c.in_err-grown.ensures)
@@ -39,5 +39,5 @@ returns c =
     let text = c.args.text.now in
     let s : Source = source (record { point = c.first.result; state = c.new.result }) in
     let is : s ≡ start text = λ i. record { text = c.first.ensures.text i; state = c.new.ensures i; rest = c.first.ensures.all i } in
-    rules_told text (sym c.first_fault.ensures.exact ∙ c.in_default.is) s is (grown_says c.in_ok-grown.grown) c.whole.new.reader.point.text.now c.whole.new.reader.state
-    c.in_ok-grown.ensures
+    rules_told text (sym c.first_fault.ensures.exact ∙ c.in_default.is) s is (grown_says c.in_ok-grown.grown)
+    c.whole.new.reader.point.text.now c.whole.new.reader.state c.in_ok-grown.ensures
