@@ -2,4 +2,5 @@ pub mod GrownItems
 pub mod ItemKinds
 pub mod ListLaws
 pub mod Options
+pub mod RuleParts
 pub mod WholeFiles

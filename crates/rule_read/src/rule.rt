@@ -1,6 +1,7 @@
 //! Rules: a side that is sought, one that replaces it, and the options under which it does.
 
-ghost use Rattle.std.specs.Prelude.{◌≡◌};
+ghost use Rattle.std.specs.Prelude.{◌≡◌, ◌<◌, true, length};
+ghost use Rattle.rule_term.specs.FormedTest.{sides_formed};
 ghost use Rattle.grammar.specs.Grammar.{terminal};
 ghost use Rattle.grammar.specs.Terminals.{AQuoted, TheMark};
 ghost use Rattle.rule_spelling.specs.Files.{ARule};
@@ -89,7 +90,7 @@ fn formula_here<'a>(alloc: Global, reader: &mut Reader<'a>) -> Result<When, Rule
     }
 }
 
-/// The `)` of a rule. All rules have at most 65,536 variants together.
+/// The `)` of a rule whose sides are formed. All rules have at most 65,536 variants together.
 #[tactic(auto, unfolding(rule_spelling::specs::Tokens::rule_ended))]
 fn ended<'a>(
     search: Term,
@@ -97,23 +98,37 @@ fn ended<'a>(
     when: When,
     reader: &mut Reader<'a>,
 ) -> Result<Rule, RuleFault>
+    requires formed { sides_formed (length reader.old.state.names) (term_says search) (term_says replace) ≡ true }
+    requires few { reader.old.state.rules < 4096 }
     ensures { Gives (λ x. (ARule (rule_says x), source reader.new)) result (reads (terminal (TheMark 41) (rule_ended (term_says search) (term_says replace) (when_says when))) (source reader.old)) }
 {
     let at = reader.point;
     if !at.is_mark(b')') {
         return Err(at.expected());
     }
-    let number = reader.state.rules();
-    let vars = reader.state.vars();
-    // What was read is formed (rule_spelling), so there is a rule: this arm is never taken, which no contract says yet.
-    let Some(rule) = Rule::new(number, search, replace, when, vars) else {
-        return Err(RuleFault::OutOfMemory);
-    };
+    let rule = formed_rule(
+        reader.state.rules(),
+        search,
+        replace,
+        when,
+        reader.state.vars(),
+    );
     let variants = variant_count(&rule);
     if u64::from(reader.state.variants()) + u64::from(variants) > MOST_VARIANTS {
         return Err(RuleFault::TooLarge(at.place()));
     }
-    reader.state.end_rule(variants)?;
+    reader.state.end_rule(variants);
     reader.point = at.next();
     Ok(rule)
+}
+
+/// The rule of sides that are formed.
+fn formed_rule(number: u32, search: Term, replace: Term, when: When, vars: u32) -> Rule
+    requires { sides_formed vars (term_says search) (term_says replace) ≡ true }
+    ensures { result ≡ record { number = number; search = term_says search; replace = term_says replace; when = when; vars = vars } }
+{
+    match Rule::new(number, search, replace, when, vars) {
+        Some(rule) => rule,
+        None => unreachable!(),
+    }
 }

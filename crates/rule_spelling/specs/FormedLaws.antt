@@ -1,5 +1,5 @@
 -- Each rule that a text says is formed: an opcode is sought, opcodes have their sources, variables are numbered in order, and the replacement has no other.
-use Rattle.std.specs.Prelude.{◌≡◌, refl, ℕ, ◌+◌, ◌<◌, ◌≤◌, pos, true, false, ◌&&◌, List, [], ◌∷◌, ◌++◌, length, nat_eq, nat_le, nat_lt, Option, Some, None, Ok, is_none}
+use Rattle.std.specs.Prelude.{◌≡◌, refl, ℕ, ◌+◌, pos, true, false, ◌&&◌, List, [], ◌∷◌, length, nat_eq, nat_le, nat_lt, Option, Some, None, Ok, is_none}
 use Rattle.std.specs.List.{AllByRecursion, list_all}
 use Rattle.std.proofs.Common.{sym, ap, ◌∙◌, subst, arith, inl, inr, ⊎_elim}
 use Rattle.std.proofs.lemmas.Bool.{and_from, eq-eqb, le-leb}
@@ -10,7 +10,8 @@ use Rattle.rule_term.specs.Formed.{is_application, numbered, replace_piece_forme
 use Rattle.rule_term.specs.FormedTest.{FormedIsTested, replace_formed, search_formed, sides_formed}
 use Rattle.rule_term.specs.Pieces.{pieces, terms_count, vars_of, ops_of}
 use Rattle.rule_term.specs.Terms.{Terms, Nil, LitThen, AppThen}
-use Rattle.grammar.specs.Terminals.{Terminal}
+use Rattle.grammar.specs.Grammar.{terminal}
+use Rattle.grammar.specs.Terminals.{Terminal, TheMark}
 use Rattle.grammar.specs.Made.{Fact, Made}
 use Rattle.grammar.specs.MadeLaws.{read_made, text_made}
 use Rattle.grammar.specs.Reading.{Reading, read, read_to}
@@ -165,18 +166,20 @@ sides_are a b c d search replace none no_ops sought same no_more put =
     search_ok)
     replace_ok
 
-rule_formed : (x : State) (item : Item) (y : State) → Made rule_files Known rule x item y → PassesTest item
-rule_formed x item y (
-  mark,
-  x1,
-  (t, is, begun),
-  (search, x2, sought, (comma, x3, (t', is', side), (replace, x4, put, (formula, x5, options_made, (t'', is'', ended))))),
-) =
-    let start = begun_is x t (mark, x1) begun in
-    let other = side_is x2 t' (comma, x3) side in
+-- before the end of the rule is read
+pub sides_read : (x x1 x2 x3 x4 x5 : State) (search replace : Terms) (formula : Formula)
+    → Made rule_files Known (terminal (TheMark 40) rule_begun) x tt x1 → Made rule_files Known (app Search) x1 search x2
+    → Made rule_files Known (terminal (TheMark 44) side_begun) x2 tt x3 → Known Replace x3 replace x4 → Made rule_files Known options x4 formula x5
+    → sides_formed (length x5.names) search replace ≡ true
+sides_read x x1 x2 x3 x4 x5 search replace formula (t, is, begun) sought (t', is', side) put options_made =
+    let start = begun_is x t (tt, x1) begun in
+    let other = side_is x2 t' (tt, x3) side in
     let formed = sides_are x1 x2 x3 x4 search replace start.0 start.1 (app_seeks x1 search x2 sought) other.0 other.1 put in
-    ended_is search replace formula x5 t'' (item, y) ended
-    (subst (λ (x : State). sides_formed (length x.names) search replace ≡ true) (options_keep x4 formula x5 options_made) formed)
+    subst (λ (x : State). sides_formed (length x.names) search replace ≡ true) (options_keep x4 formula x5 options_made) formed
+
+rule_formed : (x : State) (item : Item) (y : State) → Made rule_files Known rule x item y → PassesTest item
+rule_formed x item y (mark, x1, begun, (search, x2, sought, (comma, x3, side, (replace, x4, put, (formula, x5, options_made, (t, is, ended)))))) =
+    ended_is search replace formula x5 t (item, y) ended (sides_read x x1 x2 x3 x4 x5 search replace formula begun sought side put options_made)
 
 -- a rule that is read is formed, whatever stands behind it
 pub read_rule_formed : (depth : ℕ) (x : State) (ts : List Terminal) (f : Reading rule_files Item)

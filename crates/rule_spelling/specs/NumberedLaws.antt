@@ -1,9 +1,9 @@
 -- The rules of a text are numbered from 0, and no opcode is weighed twice: what no other terminal changes of the state.
-use Rattle.std.specs.Prelude.{◌≡◌, ◌≤◌, refl, ℕ, suc, ℤ, pos, negsuc, true, false, ◌||◌, List, [], ◌∷◌, ◌++◌, length, nat_eq, nat_le, nat_lt, IfSome, Option, Some, None, Ok, Err, Result, codes, ◌+◌}
+use Rattle.std.specs.Prelude.{◌≡◌, ◌≤◌, ◌<◌, refl, ℕ, suc, ℤ, pos, negsuc, true, false, ◌||◌, List, [], ◌∷◌, ◌++◌, length, nat_eq, nat_le, nat_lt, IfSome, Option, Some, None, Ok, Err, Result, codes, ◌+◌}
 use Rattle.std.specs.List.{AllByRecursion}
 use Rattle.std.specs.Str.{bytes_eq}
 use Rattle.std.proofs.Common.{sym, ap, ◌∙◌, subst, inl, inr, ⊎_elim}
-use Rattle.std.proofs.lemmas.Bool.{both_ways, leb-true, or_left, or_parts, or_right}
+use Rattle.std.proofs.lemmas.Bool.{both_ways, leb-true, ltb-true, or_left, or_parts, or_right}
 use Rattle.std.proofs.lemmas.Slice.Eq.{bytes_eq-Decides}
 use Rattle.list_laws.specs.AllLaws.{all_each}
 use Rattle.list_laws.specs.BoolLaws.{chosen}
@@ -13,9 +13,9 @@ use Rattle.nir_ops.specs.Lookup.{op_named}
 use Rattle.nir_ops.specs.Names.{op_named-named}
 use Rattle.rule_term.specs.Formed.{is_mov, literal_formed, may_stand}
 use Rattle.rule_term.specs.Terms.{Terms}
-use Rattle.grammar.specs.Terminals.{Terminal, is_among}
+use Rattle.grammar.specs.Terminals.{Terminal, TheMark, is_among}
 use Rattle.grammar.specs.Lookahead.{Lookahead}
-use Rattle.grammar.specs.Grammar.{Grammar}
+use Rattle.grammar.specs.Grammar.{Grammar, terminal}
 use Rattle.grammar.specs.Made.{Fact, Made}
 use Rattle.grammar.specs.MadeLaws.{text_made}
 use Rattle.grammar.specs.RespectsLaws.{Respects, made_keeps}
@@ -29,7 +29,7 @@ use Rattle.rule_spelling.specs.Text.{terminals_of}
 use Rattle.rule_spelling.specs.Tokens.{State, none_read, Place, Search, Replace, Evidence, Taken, Head, and_said, bound_var, closed, counted_op, evidence_begun, formula_taken, is_plain, may_ask, named_op, named_var, number_taken, numbered_var, op_taken, or_bad_option, place_of, rule_begun, rule_ended, side_begun, var_taken, variants_of, weighed_op, weighed_taken, weight_of, weight_taken}
 
 -- the rules and the weighed opcodes stay the same
-abbrev Stays : State → State → Type 0
+abbrev pub Stays : State → State → Type 0
 Stays x y = (x.rules ≡ y.rules) × (x.weighed ≡ y.weighed)
 
 self : (x : State) → Stays x x
@@ -214,13 +214,13 @@ evidence_same = (evidence_stays, λ _. (((any_same, λ _. tt), (index_same, λ n
 -- ---- items
 
 -- each term keeps it
-abbrev Keeping : (place : Place) → Fact rule_files Terms
+abbrev pub Keeping : (place : Place) → Fact rule_files Terms
 Keeping place x term y = Stays x y
 
 keeps : {p : Lookahead} {A : Type 0} (g : Grammar rule_files p A) → Same g → (x : State) (a : A) (y : State) → Made rule_files Keeping g x a y → Stays x y
 keeps g same x a y made = made_keeps rule_files Stays self on Keeping (λ place x term y kept. kept) g same x a y made
 
-terms_keep : (place : Place) (x : State) (term : Terms) (y : State) → Made rule_files Keeping (productions place) x term y → Keeping place x term y
+pub terms_keep : (place : Place) (x : State) (term : Terms) (y : State) → Made rule_files Keeping (productions place) x term y → Keeping place x term y
 terms_keep place x term y made = keeps (expr place) (expr_same place) x term y made
 
 -- how many rules there are before an item and behind it, and which opcodes were weighed
@@ -292,19 +292,34 @@ behind x y z (AWeight op weight) stays kept = (
 behind x y z (ARule read) stays kept = (kept.0 ∙ sym stays.0, kept.1 ∙ ap suc (sym stays.0), stays.1 ∙ kept.2)
 behind x y z (ALine line) stays kept = on x y z stays kept
 
-rule_keeps : (x : State) (a : Item) (y : State) → Made rule_files Keeping rule x a y → ItemKeeps x a y
-rule_keeps x a y (
-  mark,
-  x1,
-  (t, is, begun),
-  (search, x2, sought, (comma, x3, (t', is', side), (replace, x4, put, (formula, x5, options_made, (t'', is'', ended))))),
-) =
-    let start = begun_stays x t (mark, x1) begun in
+-- before the end of the rule is read
+before_end : (x x1 x2 x3 x4 x5 : State) (search replace : Terms) (formula : Formula)
+    → Made rule_files Keeping (terminal (TheMark 40) rule_begun) x tt x1 → Made rule_files Keeping (app Search) x1 search x2
+    → Made rule_files Keeping (terminal (TheMark 44) side_begun) x2 tt x3 → Keeping Replace x3 replace x4 → Made rule_files Keeping options x4 formula x5
+    → Stays x x5
+before_end x x1 x2 x3 x4 x5 search replace formula (t, is, begun) sought (t', is', side) put options_made =
+    let start = begun_stays x t (tt, x1) begun in
     let first = keeps (app Search) (app_same Search) x1 search x2 sought in
-    let other = side_stays x2 t' (comma, x3) side in
+    let other = side_stays x2 t' (tt, x3) side in
     let last = keeps options options_same x4 formula x5 options_made in
-    let same : Stays x x5 = on x x1 x5 start (on x1 x2 x5 first (on x2 x3 x5 other (on x3 x4 x5 put last))) in
-    behind x x5 y a same (ended_keeps search replace formula x5 t'' (a, y) ended)
+    on x x1 x5 start (on x1 x2 x5 first (on x2 x3 x5 other (on x3 x4 x5 put last)))
+
+begun_few : (x : State) (t : Terminal) (p : (Unit {0}) × State) → rule_begun x t ≡ Ok p → x.rules < 4096
+unfolding rule_begun
+begun_few x t p e = ⊎_elim (λ few. ltb-true x.rules 4096 few.0) (λ many. absurd (let never = many.1 in cc)) (chosen (nat_lt x.rules 4096) _ _ _ e)
+
+-- there is room for one more rule
+pub rules_few : (x x1 x2 x3 x4 x5 : State) (search replace : Terms) (formula : Formula)
+    → Made rule_files Keeping (terminal (TheMark 40) rule_begun) x tt x1 → Made rule_files Keeping (app Search) x1 search x2
+    → Made rule_files Keeping (terminal (TheMark 44) side_begun) x2 tt x3 → Keeping Replace x3 replace x4 → Made rule_files Keeping options x4 formula x5
+    → x5.rules < 4096
+rules_few x x1 x2 x3 x4 x5 search replace formula begun sought side put options_made =
+    subst (λ n. n < 4096) (before_end x x1 x2 x3 x4 x5 search replace formula begun sought side put options_made).0 (begun_few x begun.0 (tt, x1) begun.2)
+
+rule_keeps : (x : State) (a : Item) (y : State) → Made rule_files Keeping rule x a y → ItemKeeps x a y
+rule_keeps x a y (mark, x1, begun, (search, x2, sought, (comma, x3, side, (replace, x4, put, (formula, x5, options_made, (t, is, ended)))))) =
+    behind x x5 y a (before_end x x1 x2 x3 x4 x5 search replace formula begun sought side put options_made)
+    (ended_keeps search replace formula x5 t (a, y) ended)
 
 -- an opcode that is weighed
 abbrev Weighs : State → Op × State → Type 0

@@ -104,19 +104,14 @@ impl<'a> State<'a> {
         self.ops += 1;
     }
 
-    /// A rule ends that has so many variants. `OutOfMemory` says that there are 4,096 already: a reader stops
-    /// at the `(` of the next, so this arm is never taken, which no contract says yet.
-    pub fn end_rule(&mut self, variants: u32) -> Result<(), RuleFault>
-        requires { self.old.variants + variants ≤ 65536 }
-        ensures ok { OnOk result (self.new ≡ record self.old { rules = suc self.old.rules; variants = self.old.variants + variants }) }
-        ensures err { IfErr result (λ fault. fault ≡ NoMemory) }
+    /// A rule ends that has so many variants.
+    pub fn end_rule(&mut self, variants: u32)
+        requires few { self.old.rules < 4096 }
+        requires variants { self.old.variants + variants ≤ 65536 }
+        ensures { self.new ≡ record self.old { rules = suc self.old.rules; variants = self.old.variants + variants } }
     {
-        if self.rules >= 4096 {
-            return Err(RuleFault::OutOfMemory);
-        }
         self.rules += 1;
         self.variants += variants;
-        Ok(())
     }
 
     /// Where a name stands among those of the variables, None where it does not. A plain search of at most 16 names.
