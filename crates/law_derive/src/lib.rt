@@ -1,0 +1,24 @@
+//! Derivations: steps by laws of the opcodes, and calculations, that lead from one side of a rule to the other. Here stand the table of
+//! the laws, what each step makes of a term or why it does not apply, and that a derivation in which nothing is wrong shows that both
+//! sides are equal. The code that checks a derivation is to come.
+#![tactic(auto)]
+
+ghost use Rattle.law_derive.specs.LawsHold.{LawsHold};
+ghost use Rattle.law_derive.specs.Sound.{DerivationsAreSound};
+
+mod law;
+mod node;
+
+pub use law::{Law, LawNode};
+pub use node::{Kind, Node};
+
+/// Each law holds at each of its sizes, for all words of its letters that meet its condition.
+pub fn laws_hold()
+    ensures { LawsHold }
+{}
+
+/// A derivation in which nothing is wrong shows that both sides of the rule have one value at the typing, for all values that meet
+/// the conditions on all occurrences of the variables.
+pub fn derivations_are_sound()
+    ensures { DerivationsAreSound }
+{}

@@ -1,0 +1,4 @@
+pub mod Bits
+pub mod Orders
+pub mod Powers
+pub mod Sums
