@@ -1,5 +1,5 @@
 -- The typings of a rule, one by one, and what is wrong at each.
-use Rattle.std.proofs.Common.{◌≡◌, ◌+◌, ◌<◌, ◌≤◌, ℕ, true, Option, Some, None, List, [], ◌∷◌, length, drop, get_or, refl, sym, ◌∙◌, ap, subst}
+use Rattle.std.proofs.Common.{◌≡◌, ◌+◌, ◌<◌, ℕ, true, Option, Some, None, List, length, drop, get_or, refl, sym, ◌∙◌, ap, subst}
 use Rattle.std.specs.List.{All}
 use Rattle.std.specs.Option.{option_map, option_or}
 use Rattle.std.proofs.lemmas.List.{at_drop_more}
@@ -8,19 +8,20 @@ use Rattle.rule_term.specs.Rule.{Rule}
 use Rattle.rule_term.specs.Typings.{is_typing, typings}
 use Rattle.rule_term.specs.declared.typing.Typing.{Typing}
 use Rattle.size_infer.specs.Grown.{all_widths_of}
+use Rattle.rule_spelling.specs.Files as said
+use Rattle.rule_spelling.specs.Files.{Line, Proof}
 use Rattle.rule_read.specs.declared.entry.Entry.{Entry}
-use Rattle.rule_read.specs.declared.entry.Line.{Line}
-use Rattle.rule_read.specs.declared.entry.Proof.{Proof}
-use Rattle.rule_read.specs.declared.entry.Proof.TheVariants as proof
+use Rattle.rule_read.specs.Says.{entry_says}
 use Rattle.size_infer.specs.SizeFaults.{size_fault}
 use Rattle.size_infer.specs.declared.fault.SizeFault.{SizeFault}
 use Rattle.rule_check.specs.declared.evidence.Kind.TheVariants as kind
 use Rattle.rule_check.specs.declared.refused.RuleCause.{RuleCause}
 use Rattle.rule_check.specs.declared.refused.RuleCause.TheVariants as cause
 use Rattle.rule_check.specs.declared.refused.Refused.{Refused}
-use Rattle.rule_check.specs.Accepted.{cause_at, cause_by, cause_of_trial, refusal_of, refused_among, refused_at, refused_by_size, refused_for}
+use Rattle.rule_check.specs.Accepted.{cause_at, cause_by, cause_of_trial, Claim, claim_of, refusal_of, refusal_on, refused_among, refused_at, refused_by_size, refused_for}
 use Rattle.rule_check.specs.Cases.{trial_of}
 use Rattle.rule_check.specs.Lines.{kind_of}
+use Rattle.rule_check.specs.SaidLaws.{refusal_as_said}
 
 -- the typing at a place of a list
 abbrev pub IsTypingAt : List Typing → ℕ → Typing → Type 0
@@ -29,30 +30,30 @@ IsTypingAt list k typing = (k < length list) × (typing ≡ get_or list k typing
 pub typing-at : (rule : Rule) (list : List Typing) (k : ℕ) (typing : Typing) → IsTypingAt list k typing → All (λ typing. is_typing rule typing.widths ≡ true) list → is_typing rule typing.widths ≡ true
 typing-at rule list k typing at all = subst (λ (t : Typing). is_typing rule t.widths ≡ true) (sym at.1) (all k typing at.0)
 
-among-at : (entry : Entry) (list : List Typing) (k : ℕ) (typing : Typing) → IsTypingAt list k typing
-    → refused_among entry k (all_widths_of (drop k list)) ≡ option_or (option_map (refused_at entry k) (cause_at entry k typing.widths)) (refused_among entry (k + 1) (all_widths_of (drop (k + 1) list)))
-among-at entry list k typing at =
-    at_drop_more (λ l. refused_among entry k (all_widths_of l)) list k typing at.0
-    ∙ ap (λ (t : Typing). option_or (option_map (refused_at entry k) (cause_at entry k t.widths)) (refused_among entry (k + 1) (all_widths_of (drop (k + 1) list)))) (sym at.1)
+among-at : (claim : Claim) (list : List Typing) (k : ℕ) (typing : Typing) → IsTypingAt list k typing
+    → refused_among claim k (all_widths_of (drop k list)) ≡ option_or (option_map (refused_at claim k) (cause_at claim k typing.widths)) (refused_among claim (k + 1) (all_widths_of (drop (k + 1) list)))
+among-at claim list k typing at =
+    at_drop_more (λ l. refused_among claim k (all_widths_of l)) list k typing at.0
+    ∙ ap (λ (t : Typing). option_or (option_map (refused_at claim k) (cause_at claim k t.widths)) (refused_among claim (k + 1) (all_widths_of (drop (k + 1) list)))) (sym at.1)
 
-pub among-past : (entry : Entry) (list : List Typing) (k : ℕ) (typing : Typing) → IsTypingAt list k typing → cause_at entry k typing.widths ≡ None
-    → refused_among entry (k + 1) (all_widths_of (drop (k + 1) list)) ≡ refused_among entry k (all_widths_of (drop k list))
-among-past entry list k typing at none =
-    sym (among-at entry list k typing at ∙ ap (λ c. option_or (option_map (refused_at entry k) c) (refused_among entry (k + 1) (all_widths_of (drop (k + 1) list)))) none)
+pub among-past : (claim : Claim) (list : List Typing) (k : ℕ) (typing : Typing) → IsTypingAt list k typing → cause_at claim k typing.widths ≡ None
+    → refused_among claim (k + 1) (all_widths_of (drop (k + 1) list)) ≡ refused_among claim k (all_widths_of (drop k list))
+among-past claim list k typing at none =
+    sym (among-at claim list k typing at ∙ ap (λ c. option_or (option_map (refused_at claim k) c) (refused_among claim (k + 1) (all_widths_of (drop (k + 1) list)))) none)
 
-pub among-here : (entry : Entry) (list : List Typing) (k : ℕ) (typing : Typing) (found : RuleCause) → IsTypingAt list k typing → cause_at entry k typing.widths ≡ Some found
-    → refused_among entry k (all_widths_of (drop k list)) ≡ Some (refused_at entry k found)
-among-here entry list k typing found at some =
-    among-at entry list k typing at ∙ ap (λ c. option_or (option_map (refused_at entry k) c) (refused_among entry (k + 1) (all_widths_of (drop (k + 1) list)))) some
+pub among-here : (claim : Claim) (list : List Typing) (k : ℕ) (typing : Typing) (found : RuleCause) → IsTypingAt list k typing → cause_at claim k typing.widths ≡ Some found
+    → refused_among claim k (all_widths_of (drop k list)) ≡ Some (refused_at claim k found)
+among-here claim list k typing found at some =
+    among-at claim list k typing at ∙ ap (λ c. option_or (option_map (refused_at claim k) c) (refused_among claim (k + 1) (all_widths_of (drop (k + 1) list)))) some
 
 -- the line for a typing alone goes first
 abbrev proof_of : Option Line → Option Proof
 proof_of found = option_map (λ line. line.proof) found
 
 some_kind : (p : Proof) → kind_of (Some p) ≡ kind.Missing → ⊥
-some_kind proof.Cases e = cc
-some_kind (proof.Derive steps) e = cc
-some_kind (proof.Logged log) e = cc
+some_kind said.Cases e = cc
+some_kind (said.Derive steps) e = cc
+some_kind (said.Logged log) e = cc
 
 pub kind_missing : (own rest : Option Line) → kind.Missing ≡ kind_of (proof_of own) → kind_of (proof_of rest) ≡ kind_of (proof_of (option_or own rest))
 kind_missing None rest e = refl
@@ -69,25 +70,28 @@ kind_unchecked (Some line) rest e = e
 -- what each sort of evidence leaves to see
 pub by_cases : (rule : Rule) (widths : List Width) (evidence : Option Proof) → kind.Cases ≡ kind_of evidence → cause_of_trial (trial_of rule widths) ≡ cause_by rule widths evidence
 by_cases rule widths None e = cc
-by_cases rule widths (Some proof.Cases) e = refl
-by_cases rule widths (Some (proof.Derive steps)) e = cc
-by_cases rule widths (Some (proof.Logged log)) e = cc
+by_cases rule widths (Some said.Cases) e = refl
+by_cases rule widths (Some (said.Derive steps)) e = cc
+by_cases rule widths (Some (said.Logged log)) e = cc
 
 pub by_unchecked : (rule : Rule) (widths : List Width) (evidence : Option Proof) → kind.Unchecked ≡ kind_of evidence → Some cause.NotBuilt ≡ cause_by rule widths evidence
 by_unchecked rule widths None e = cc
-by_unchecked rule widths (Some proof.Cases) e = cc
-by_unchecked rule widths (Some (proof.Derive steps)) e = refl
-by_unchecked rule widths (Some (proof.Logged log)) e = refl
+by_unchecked rule widths (Some said.Cases) e = cc
+by_unchecked rule widths (Some (said.Derive steps)) e = refl
+by_unchecked rule widths (Some (said.Logged log)) e = refl
 
 pub by_missing : (rule : Rule) (widths : List Width) (evidence : Option Proof) → kind.Missing ≡ kind_of evidence → Some cause.NoEvidence ≡ cause_by rule widths evidence
 by_missing rule widths None e = refl
 by_missing rule widths (Some p) e = absurd (some_kind p (sym e))
 
 -- the refusal for sizes, and that of the first typing
-pub told_by_size : (entry : Entry) (fault : SizeFault) (refused : Refused) → refused ≡ refused_by_size entry fault → size_fault entry.rule ≡ Some fault → Some refused ≡ refusal_of entry
-unfolding refusal_of
-told_by_size entry fault refused is told = ap Some is ∙ sym (ap (refused_for entry) told)
+pub told_by_size : (entry : Entry) (fault : SizeFault) (refused : Refused) → refused ≡ refused_by_size (claim_of entry) fault → size_fault entry.rule ≡ Some fault
+    → Some refused ≡ refusal_of (entry_says entry)
+unfolding refusal_on
+told_by_size entry fault refused is told = ap Some is ∙ sym (ap (refused_for (claim_of entry)) told) ∙ refusal_as_said entry
 
-pub told_by_evidence : (entry : Entry) (found : Option Refused) (list : List (List Width)) → found ≡ refused_among entry 0 list → list ≡ typings entry.rule → size_fault entry.rule ≡ None → found ≡ refusal_of entry
-unfolding refusal_of
-told_by_evidence entry found list is whole none = is ∙ ap (refused_among entry 0) whole ∙ sym (ap (refused_for entry) none)
+pub told_by_evidence : (entry : Entry) (found : Option Refused) (list : List (List Width)) → found ≡ refused_among (claim_of entry) 0 list → list ≡ typings entry.rule → size_fault entry.rule ≡ None
+    → found ≡ refusal_of (entry_says entry)
+unfolding refusal_on
+told_by_evidence entry found list is whole none =
+    is ∙ ap (refused_among (claim_of entry) 0) whole ∙ sym (ap (refused_for (claim_of entry)) none) ∙ refusal_as_said entry

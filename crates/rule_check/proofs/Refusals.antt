@@ -1,13 +1,14 @@
 -- What a loop over the entries of a file has met, entry by entry.
-use Rattle.std.proofs.Common.{◌≡◌, ◌+◌, ◌<◌, ℕ, zero, suc, Bool, true, false, cond, Option, Some, None, List, [], ◌∷◌, ◌++◌, length, drop, take, get_or, filter, is_none, option_to_list, refl, sym, ◌∙◌, ap, subst, arith}
+use Rattle.std.proofs.Common.{◌≡◌, ◌+◌, ◌<◌, ℕ, zero, suc, cond, Option, Some, None, List, [], ◌∷◌, ◌++◌, length, drop, take, get_or, filter, is_none, option_to_list, sym, ◌∙◌, ap, subst, arith}
 use Rattle.std.specs.List.{AllByRecursion}
 use Rattle.std.proofs.lemmas.List.{at_drop_more, take_more, take-append-drop}
 use Rattle.rule_term.specs.Rule.{Rule}
 use Rattle.rule_term.specs.Table.{AllBelow}
 use Rattle.rule_read.specs.declared.entry.Entry.{Entry}
+use Rattle.rule_read.specs.Says.{entry_says}
 use Rattle.rule_read.specs.RuleFile.{AreNumbered}
 use Rattle.rule_check.specs.declared.refused.Refused.{Refused}
-use Rattle.rule_check.specs.Accepted.{accepted, accepts, refusal_of, refusals, rules_of}
+use Rattle.rule_check.specs.Accepted.{accepted, accepts, entries_say, refusal_of, refusals, rules_of}
 
 -- the entry at a place of a list
 abbrev pub IsAt : List Entry → ℕ → Entry → Type 0
@@ -31,26 +32,26 @@ below-next [] k below = tt
 below-next (first ∷ rest) k below = (omega (arith, below.0), below-next rest k below.1)
 
 -- the refusals, the accepted rules and all rules from a place on
-pub refusals-at : (entries : List Entry) (k : ℕ) (entry : Entry) → IsAt entries k entry → refusals (drop k entries) ≡ option_to_list (refusal_of entry) ++ refusals (drop (k + 1) entries)
-refusals-at entries k entry at = at_drop_more refusals entries k entry at.0 ∙ ap (λ e. option_to_list (refusal_of e) ++ refusals (drop (k + 1) entries)) (sym at.1)
+pub refusals-at : (entries : List Entry) (k : ℕ) (entry : Entry) → IsAt entries k entry → refusals (entries_say (drop k entries)) ≡ option_to_list (refusal_of (entry_says entry)) ++ refusals (entries_say (drop (k + 1) entries))
+refusals-at entries k entry at = at_drop_more (λ l. refusals (entries_say l)) entries k entry at.0 ∙ ap (λ e. option_to_list (refusal_of (entry_says e)) ++ refusals (entries_say (drop (k + 1) entries))) (sym at.1)
 
-pub refusals-past : (entries : List Entry) (k : ℕ) (entry : Entry) → IsAt entries k entry → refusal_of entry ≡ None → refusals (drop k entries) ≡ refusals (drop (k + 1) entries)
-refusals-past entries k entry at none = refusals-at entries k entry at ∙ ap (λ r. option_to_list r ++ refusals (drop (k + 1) entries)) none
+pub refusals-past : (entries : List Entry) (k : ℕ) (entry : Entry) → IsAt entries k entry → refusal_of (entry_says entry) ≡ None → refusals (entries_say (drop k entries)) ≡ refusals (entries_say (drop (k + 1) entries))
+refusals-past entries k entry at none = refusals-at entries k entry at ∙ ap (λ r. option_to_list r ++ refusals (entries_say (drop (k + 1) entries))) none
 
-pub refusals-here : (entries : List Entry) (k : ℕ) (entry : Entry) (refused : Refused) → IsAt entries k entry → refusal_of entry ≡ Some refused → refusals (drop k entries) ≡ refused ∷ refusals (drop (k + 1) entries)
-refusals-here entries k entry refused at some = refusals-at entries k entry at ∙ ap (λ r. option_to_list r ++ refusals (drop (k + 1) entries)) some
+pub refusals-here : (entries : List Entry) (k : ℕ) (entry : Entry) (refused : Refused) → IsAt entries k entry → refusal_of (entry_says entry) ≡ Some refused → refusals (entries_say (drop k entries)) ≡ refused ∷ refusals (entries_say (drop (k + 1) entries))
+refusals-here entries k entry refused at some = refusals-at entries k entry at ∙ ap (λ r. option_to_list r ++ refusals (entries_say (drop (k + 1) entries))) some
 
-accepted-at : (entries : List Entry) (k : ℕ) (entry : Entry) (refusal : Option Refused) → IsAt entries k entry → refusal_of entry ≡ refusal
+accepted-at : (entries : List Entry) (k : ℕ) (entry : Entry) (refusal : Option Refused) → IsAt entries k entry → refusal_of (entry_says entry) ≡ refusal
     → accepted (drop k entries) ≡ rules_of (cond (is_none refusal) (entry ∷ filter accepts (drop (k + 1) entries)) (filter accepts (drop (k + 1) entries)))
 accepted-at entries k entry refusal at is =
     at_drop_more accepted entries k entry at.0
     ∙ ap (λ e. accepted (e ∷ drop (k + 1) entries)) (sym at.1)
     ∙ ap (λ r. rules_of (cond (is_none r) (entry ∷ filter accepts (drop (k + 1) entries)) (filter accepts (drop (k + 1) entries)))) is
 
-pub accepted-here : (entries : List Entry) (k : ℕ) (entry : Entry) → IsAt entries k entry → refusal_of entry ≡ None → accepted (drop k entries) ≡ entry.rule ∷ accepted (drop (k + 1) entries)
+pub accepted-here : (entries : List Entry) (k : ℕ) (entry : Entry) → IsAt entries k entry → refusal_of (entry_says entry) ≡ None → accepted (drop k entries) ≡ entry.rule ∷ accepted (drop (k + 1) entries)
 accepted-here entries k entry at none = accepted-at entries k entry None at none
 
-pub accepted-past : (entries : List Entry) (k : ℕ) (entry : Entry) (refused : Refused) → IsAt entries k entry → refusal_of entry ≡ Some refused → accepted (drop k entries) ≡ accepted (drop (k + 1) entries)
+pub accepted-past : (entries : List Entry) (k : ℕ) (entry : Entry) (refused : Refused) → IsAt entries k entry → refusal_of (entry_says entry) ≡ Some refused → accepted (drop k entries) ≡ accepted (drop (k + 1) entries)
 accepted-past entries k entry refused at some = accepted-at entries k entry (Some refused) at some
 
 pub rules-at : (entries : List Entry) (k : ℕ) (entry : Entry) → IsAt entries k entry → rules_of (drop k entries) ≡ entry.rule ∷ rules_of (drop (k + 1) entries)

@@ -1,27 +1,44 @@
 -- Which rules of a file are accepted: those whose sizes have no fault and that have good evidence at each typing. A rule that is not is refused, with the reason.
-use Rattle.std.specs.Prelude.{◌≡◌, ◌+◌, ℕ, Bool, false, Option, Some, None, List, [], ◌∷◌, ◌++◌, map, filter, is_none, nat_eq, cond, slice_get, option_to_list}
+-- It is told of what a file says, where no evidence holds a pointer; the options of a rule play no part.
+use Rattle.std.specs.Prelude.{◌+◌, ℕ, Bool, false, Option, Some, None, List, [], ◌∷◌, ◌++◌, map, filter, is_none, nat_eq, cond, slice_get, option_to_list}
 use Rattle.std.specs.List.{find}
 use Rattle.std.specs.Option.{option_map, option_or}
 use denote.Enum.Bare.{sameb}
 use Rattle.nir_ops.specs.contracts.op.Op as op
 use Rattle.nir_ops.specs.declared.op.Op.{Op}
 use Rattle.nir_ops.specs.declared.width.Width.{Width}
+use Rattle.rule_term.specs.declared.when.When.TheVariants.{Always}
 use Rattle.rule_term.specs.Rule.{Rule}
 use Rattle.rule_term.specs.Typings.{typings}
 use Rattle.rule_term.specs.Weights.{initial_weight}
 use Rattle.size_infer.specs.SizeFaults.{size_fault}
 use Rattle.size_infer.specs.declared.fault.SizeFault.{SizeFault}
-use Rattle.rule_read.specs.declared.entry.Entry.{Entry}
-use Rattle.rule_read.specs.declared.entry.Line.{Line}
-use Rattle.rule_read.specs.declared.entry.Proof.{Proof}
-use Rattle.rule_read.specs.declared.entry.Proof.TheVariants as proof
-use Rattle.rule_read.specs.declared.entry.WeightLine.{WeightLine}
+use Rattle.rule_spelling.specs.Files as said
+use Rattle.rule_spelling.specs.Files.{Entry, Line, Proof, WeightLine}
+use Rattle.rule_read.specs.declared.entry.Entry as code
+use Rattle.rule_read.specs.Says.{entry_says, line_says}
 use Rattle.rule_check.specs.declared.cases.Trial.{Trial}
 use Rattle.rule_check.specs.declared.cases.Trial.TheVariants.{Equal, Differ, TooMany}
 use Rattle.rule_check.specs.declared.refused.RuleCause.{RuleCause}
 use Rattle.rule_check.specs.declared.refused.RuleCause.TheVariants as cause
 use Rattle.rule_check.specs.declared.refused.Refused.{Refused}
 use Rattle.rule_check.specs.Cases.{trial_of}
+
+-- a rule, and the lines of evidence that are said for it
+pub record Claim : Type 0 where
+  pub rule : Rule
+  pub lines : List Line
+
+-- a rule that is said, without its options
+abbrev pub bare : said.Rule → Rule
+bare rule = record { number = rule.number; search = rule.search; replace = rule.replace; when = Always; vars = rule.vars }
+
+abbrev pub claim_said : Entry → Claim
+claim_said entry = record { rule = bare entry.rule; lines = entry.lines }
+
+-- what an entry of the code claims
+abbrev pub claim_of : code.Entry → Claim
+claim_of entry = record { rule = entry.rule; lines = map line_says entry.lines }
 
 -- a line is for the typing of this number alone, or for all
 abbrev pub is_number : ℕ → Option ℕ → Bool
@@ -46,36 +63,37 @@ cause_of_trial TooMany = Some cause.TooManyCases
 -- what is wrong with the evidence at a typing, None where nothing is: derivations and logs are not checked yet
 abbrev pub cause_by : Rule → List Width → Option Proof → Option RuleCause
 cause_by rule widths None = Some cause.NoEvidence
-cause_by rule widths (Some proof.Cases) = cause_of_trial (trial_of rule widths)
-cause_by rule widths (Some (proof.Derive steps)) = Some cause.NotBuilt
-cause_by rule widths (Some (proof.Logged log)) = Some cause.NotBuilt
+cause_by rule widths (Some said.Cases) = cause_of_trial (trial_of rule widths)
+cause_by rule widths (Some (said.Derive steps)) = Some cause.NotBuilt
+cause_by rule widths (Some (said.Logged log)) = Some cause.NotBuilt
 
-unfoldable pub cause_at : Entry → ℕ → List Width → Option RuleCause
-cause_at entry number widths = cause_by entry.rule widths (chosen_line number entry.lines)
+unfoldable pub cause_at : Claim → ℕ → List Width → Option RuleCause
+cause_at claim number widths = cause_by claim.rule widths (chosen_line number claim.lines)
 
-abbrev pub refused_at : Entry → ℕ → RuleCause → Refused
-refused_at entry number cause = record { rule = entry.rule.number; typing = Some number; cause = cause }
+abbrev pub refused_at : Claim → ℕ → RuleCause → Refused
+refused_at claim number cause = record { rule = claim.rule.number; typing = Some number; cause = cause }
 
-abbrev pub refused_by_size : Entry → SizeFault → Refused
-refused_by_size entry fault = record { rule = entry.rule.number; typing = None; cause = cause.Size fault }
+abbrev pub refused_by_size : Claim → SizeFault → Refused
+refused_by_size claim fault = record { rule = claim.rule.number; typing = None; cause = cause.Size fault }
 
 -- the first typing without good evidence, where these have the numbers from this one on
-abbrev pub refused_among : Entry → ℕ → List (List Width) → Option Refused
-refused_among entry number [] = None
-refused_among entry number (widths ∷ rest) = option_or (option_map (refused_at entry number) (cause_at entry number widths)) (refused_among entry (number + 1) rest)
+abbrev pub refused_among : Claim → ℕ → List (List Width) → Option Refused
+refused_among claim number [] = None
+refused_among claim number (widths ∷ rest) = option_or (option_map (refused_at claim number) (cause_at claim number widths)) (refused_among claim (number + 1) rest)
 
-abbrev pub refused_for : Entry → Option SizeFault → Option Refused
-refused_for entry (Some fault) = Some (refused_by_size entry fault)
-refused_for entry None = refused_among entry 0 (typings entry.rule)
+abbrev pub refused_for : Claim → Option SizeFault → Option Refused
+refused_for claim (Some fault) = Some (refused_by_size claim fault)
+refused_for claim None = refused_among claim 0 (typings claim.rule)
 
--- why a rule is refused, None where it is accepted
+-- why the rule of a claim is refused, None where it is accepted
+unfoldable pub refusal_on : Claim → Option Refused
+refusal_on claim = refused_for claim (size_fault claim.rule)
+
+-- and that of an entry which a file says
 unfoldable pub refusal_of : Entry → Option Refused
-refusal_of entry = refused_for entry (size_fault entry.rule)
+refusal_of entry = refusal_on (claim_said entry)
 
-abbrev pub accepts : Entry → Bool
-accepts entry = is_none (refusal_of entry)
-
--- the refusals of a file, the first of them, and its accepted rules, in the order of the file
+-- the refusals of a file, and the first of them, in the order of the file
 abbrev pub refusals : List Entry → List Refused
 refusals [] = []
 refusals (entry ∷ rest) = option_to_list (refusal_of entry) ++ refusals rest
@@ -83,10 +101,19 @@ refusals (entry ∷ rest) = option_to_list (refusal_of entry) ++ refusals rest
 abbrev pub first_refusal : List Entry → Option Refused
 first_refusal entries = slice_get (refusals entries) 0
 
-abbrev pub rules_of : List Entry → List Rule
+-- ---- files of the code
+
+abbrev pub entries_say : List code.Entry → List Entry
+entries_say entries = map entry_says entries
+
+abbrev pub accepts : code.Entry → Bool
+accepts entry = is_none (refusal_of (entry_says entry))
+
+abbrev pub rules_of : List code.Entry → List Rule
 rules_of entries = map (λ entry. entry.rule) entries
 
-abbrev pub accepted : List Entry → List Rule
+-- the accepted rules, in the order of the file
+abbrev pub accepted : List code.Entry → List Rule
 accepted entries = rules_of (filter accepts entries)
 
 -- the weight of an opcode by these lines, or this one where none names it

@@ -11,15 +11,16 @@ use Rattle.rule_term.specs.Formed.{IsFormed}
 use Rattle.rule_term.specs.Typings.{search_part, replace_part, typings}
 use Rattle.rule_term.specs.Holds.{values_of, are_words, are_met, EqualAt, Holds}
 use Rattle.size_infer.specs.SizeFaults.{IsSizeFault, size_fault}
+use Rattle.rule_spelling.specs.Files as said
+use Rattle.rule_spelling.specs.Files.{Proof}
 use Rattle.rule_read.specs.declared.entry.Entry.{Entry}
-use Rattle.rule_read.specs.declared.entry.Proof.{Proof}
-use Rattle.rule_read.specs.declared.entry.Proof.TheVariants as proof
+use Rattle.rule_read.specs.Says.{entry_says}
 use Rattle.rule_check.specs.declared.refused.RuleCause.{RuleCause}
 use Rattle.rule_check.specs.declared.refused.RuleCause.TheVariants as cause
 use Rattle.rule_check.specs.declared.refused.Refused.{Refused}
 use Rattle.rule_check.specs.declared.refused.CheckFault.{CheckFault}
 use Rattle.rule_check.specs.declared.refused.CheckFault.TheVariants as fault
-use Rattle.rule_check.specs.Accepted.{chosen_line, refusal_of}
+use Rattle.rule_check.specs.Accepted.{chosen_line, Claim, claim_of, refusal_of}
 use Rattle.rule_check.specs.Cases.{free_bits}
 
 -- both sides have one value where the variables have these values
@@ -41,15 +42,15 @@ pub record IsFirstDifference (rule : Rule) (widths : List Width) (values : List 
 -- the evidence is the trial of all cases, or is not checked yet
 abbrev pub IsTrial : Option Proof → Type 0
 IsTrial None = ⊥
-IsTrial (Some proof.Cases) = Unit {0}
-IsTrial (Some (proof.Derive steps)) = ⊥
-IsTrial (Some (proof.Logged log)) = ⊥
+IsTrial (Some said.Cases) = Unit {0}
+IsTrial (Some (said.Derive steps)) = ⊥
+IsTrial (Some (said.Logged log)) = ⊥
 
 abbrev pub IsUnchecked : Option Proof → Type 0
 IsUnchecked None = ⊥
-IsUnchecked (Some proof.Cases) = ⊥
-IsUnchecked (Some (proof.Derive steps)) = Unit {0}
-IsUnchecked (Some (proof.Logged log)) = Unit {0}
+IsUnchecked (Some said.Cases) = ⊥
+IsUnchecked (Some (said.Derive steps)) = Unit {0}
+IsUnchecked (Some (said.Logged log)) = Unit {0}
 
 -- the evidence at a typing is good: all cases can be tried, and the sides are equal
 pub record IsGood (rule : Rule) (widths : List Width) (evidence : Option Proof) : Type 0 where
@@ -66,32 +67,32 @@ IsBad rule widths evidence cause.TooManyCases = IsTrial evidence × (16 < free_b
 IsBad rule widths evidence cause.NotBuilt = IsUnchecked evidence
 
 -- each typing before this one has good evidence
-abbrev pub AreGoodBefore : Entry → ℕ → Type 0
-AreGoodBefore entry number = (k : ℕ) (widths : List Width) → k < number → slice_get (typings entry.rule) k ≡ Some widths → IsGood entry.rule widths (chosen_line k entry.lines)
+abbrev pub AreGoodBefore : Claim → ℕ → Type 0
+AreGoodBefore claim number = (k : ℕ) (widths : List Width) → k < number → slice_get (typings claim.rule) k ≡ Some widths → IsGood claim.rule widths (chosen_line k claim.lines)
 
 -- the first typing without good evidence
-pub record IsFirstBad (entry : Entry) (number : ℕ) (cause : RuleCause) : Type 0 where
-  pub sizes : size_fault entry.rule ≡ None
+pub record IsFirstBad (claim : Claim) (number : ℕ) (cause : RuleCause) : Type 0 where
+  pub sizes : size_fault claim.rule ≡ None
   pub widths : List Width
-  pub at : slice_get (typings entry.rule) number ≡ Some widths
-  pub bad : IsBad entry.rule widths (chosen_line number entry.lines) cause
-  pub before : AreGoodBefore entry number
+  pub at : slice_get (typings claim.rule) number ≡ Some widths
+  pub bad : IsBad claim.rule widths (chosen_line number claim.lines) cause
+  pub before : AreGoodBefore claim number
+
+-- the cause is the fault of the sizes, or that of the first typing without good evidence
+abbrev pub IsCause : Claim → Option ℕ → RuleCause → Type 0
+IsCause claim None (cause.Size fault) = IsSizeFault claim.rule fault
+IsCause claim None cause.NoEvidence = ⊥
+IsCause claim None (cause.Cases values) = ⊥
+IsCause claim None cause.TooManyCases = ⊥
+IsCause claim None cause.NotBuilt = ⊥
+IsCause claim (Some number) cause = IsFirstBad claim number cause
+
+pub record IsRefusal (claim : Claim) (refused : Refused) : Type 0 where
+  pub rule : refused.rule ≡ claim.rule.number
+  pub cause : IsCause claim refused.typing refused.cause
 
 abbrev pub HasHolding : Entry → Type 0
 HasHolding entry = Holds entry.rule
-
--- the cause is the fault of the sizes, or that of the first typing without good evidence
-abbrev pub IsCause : Entry → Option ℕ → RuleCause → Type 0
-IsCause entry None (cause.Size fault) = IsSizeFault entry.rule fault
-IsCause entry None cause.NoEvidence = ⊥
-IsCause entry None (cause.Cases values) = ⊥
-IsCause entry None cause.TooManyCases = ⊥
-IsCause entry None cause.NotBuilt = ⊥
-IsCause entry (Some number) cause = IsFirstBad entry number cause
-
-pub record IsRefusal (entry : Entry) (refused : Refused) : Type 0 where
-  pub rule : refused.rule ≡ entry.rule.number
-  pub cause : IsCause entry refused.typing refused.cause
 
 -- a rule of these entries is refused, and all rules before it hold
 pub record IsFirstRefused (entries : List Entry) (refused : Refused) : Type 0 where
@@ -100,7 +101,7 @@ pub record IsFirstRefused (entries : List Entry) (refused : Refused) : Type 0 wh
   pub behind : List Entry
   pub placed : entries ≡ before ++ entry ∷ behind
   pub hold : AllByRecursion HasHolding before
-  pub refusal : IsRefusal entry refused
+  pub refusal : IsRefusal (claim_of entry) refused
 
 -- what the answer for these entries tells of their rules
 abbrev pub IsJust : List Entry → Result Table CheckFault → Type 0
@@ -110,8 +111,8 @@ IsJust entries (Err fault.OutOfMemory) = Unit {0}
 
 -- an accepted rule holds
 abbrev pub AcceptedHold : Type 0
-AcceptedHold = (entry : Entry) → IsFormed entry.rule → refusal_of entry ≡ None → Holds entry.rule
+AcceptedHold = (entry : Entry) → IsFormed entry.rule → refusal_of (entry_says entry) ≡ None → Holds entry.rule
 
 -- what is told of a refused rule is so
 abbrev pub RefusedAreJust : Type 0
-RefusedAreJust = (entry : Entry) (refused : Refused) → IsFormed entry.rule → refusal_of entry ≡ Some refused → IsRefusal entry refused
+RefusedAreJust = (entry : Entry) (refused : Refused) → IsFormed entry.rule → refusal_of (entry_says entry) ≡ Some refused → IsRefusal (claim_of entry) refused

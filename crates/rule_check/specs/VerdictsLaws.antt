@@ -1,5 +1,5 @@
 -- A verdict means what it is to mean.
-use Rattle.std.specs.Prelude.{◌≡◌, refl, ◌+◌, ◌-◌, ◌*◌, ◌/◌, ◌%◌, ◌^◌, ◌<◌, ◌≤◌, ℕ, zero, suc, Bool, true, false, not, ◌&&◌, Option, Some, None, List, [], ◌∷◌, sum, length, nat_eq, nat_lt, slice_get, ◌⊎◌, cond}
+use Rattle.std.specs.Prelude.{◌≡◌, refl, ◌+◌, ◌*◌, ◌/◌, ◌%◌, ◌^◌, ◌<◌, ◌≤◌, ℕ, zero, suc, Bool, true, false, not, ◌&&◌, Option, Some, None, List, [], ◌∷◌, sum, length, nat_eq, nat_lt, slice_get, ◌⊎◌, cond}
 use Rattle.std.specs.List.{AllByRecursion}
 use Rattle.std.specs.Option.{option_map, option_or}
 use Rattle.std.specs.Cmp.Lexicographic.{pointwise, bytes_decides, slice_cmp}
@@ -7,7 +7,7 @@ use Rattle.std.specs.Ordering.{nat_cmp, ordering_then}
 use Rattle.std.specs.declared.cmp.Ordering.{Ordering}
 use Rattle.std.specs.declared.cmp.Ordering.TheVariants.{Less, Equal, Greater}
 use Rattle.std.proofs.Common.{sym, ◌∙◌, ap, subst, ⊎_elim, inl, inr, arith}
-use Rattle.std.proofs.lemmas.Bool.{and_parts, cases_Bool, ltb-true, ltb-false, not-true, not-false, both_ways}
+use Rattle.std.proofs.lemmas.Bool.{and_parts, ltb-true, ltb-false, not-true, not-false, both_ways}
 use Rattle.std.proofs.lemmas.Nat.{pow_pos, mul-add-lt, mod_below}
 use Rattle.std.proofs.lemmas.Cmp.{ranked}
 use Rattle.std.proofs.Math.Nat.{div-add-mod, mul_comm}
@@ -20,18 +20,16 @@ use Rattle.size_laws.specs.MembersLaws.{all_typings, each_typing}
 use Rattle.size_infer.specs.SizeFaults.{size_fault}
 use Rattle.size_infer.specs.SizeFaultsLaws.{fault_means, none_means}
 use Rattle.size_infer.specs.declared.fault.SizeFault.{SizeFault}
-use Rattle.rule_read.specs.declared.entry.Entry.{Entry}
-use Rattle.rule_read.specs.declared.entry.Proof.{Proof}
-use Rattle.rule_read.specs.declared.entry.Proof.TheVariants as proof
-use Rattle.rule_check.specs.declared.cases.Trial.{Trial}
+use Rattle.rule_spelling.specs.Files as said
+use Rattle.rule_spelling.specs.Files.{Proof}
 use Rattle.rule_check.specs.declared.cases.Trial.TheVariants as trial
 use Rattle.rule_check.specs.declared.refused.RuleCause.{RuleCause}
-use Rattle.rule_check.specs.declared.refused.RuleCause.TheVariants as cause
 use Rattle.rule_check.specs.declared.refused.Refused.{Refused}
-use Rattle.rule_check.specs.Accepted.{cause_of_trial, cause_by, cause_at, chosen_line, refused_at, refused_by_size, refused_among, refused_for, refusal_of}
+use Rattle.rule_check.specs.Accepted.{cause_of_trial, cause_by, cause_at, chosen_line, Claim, claim_of, refused_at, refused_by_size, refused_among, refused_for, refusal_on}
 use Rattle.rule_check.specs.Cases.{trial_answer, trial_of, var_bits, free_bits, tuple, tuples, differs_at, first_difference}
 use Rattle.rule_check.specs.CasesLaws.{are_within, number, number_small, tuple-number, within_from_words, tuple_within, words_of_tuple, length-tuple, length-var_bits, find_some, equal_from_none}
-use Rattle.rule_check.specs.Verdicts.{AreEqualAt, IsFirstDifference, IsTrial, IsGood, IsBad, AreGoodBefore, IsFirstBad, IsCause, IsRefusal, AcceptedHold, RefusedAreJust}
+use Rattle.rule_check.specs.SaidLaws.{refusal_as_said}
+use Rattle.rule_check.specs.Verdicts.{AreEqualAt, IsFirstDifference, IsGood, IsBad, IsRefusal, AcceptedHold, RefusedAreJust}
 
 -- the first of two lists that differ has the lesser first item, or the same and a lesser rest
 first_less : (o : Ordering) (x y : ℕ) (rest : Ordering) → o ≡ nat_cmp x y → ordering_then o rest ≡ Less → (x < y) ⊎ ((x ≡ y) × (rest ≡ Less))
@@ -113,7 +111,7 @@ first_from_some rule formed widths values typing found =
 -- what the trial finds, by the bits and the first difference
 abbrev Told : Rule → List Width → Option RuleCause → Type 0
 Told rule widths None = (free_bits rule widths ≤ 16) × EqualAt rule widths
-Told rule widths (Some cause) = IsBad rule widths (Some proof.Cases) cause
+Told rule widths (Some cause) = IsBad rule widths (Some said.Cases) cause
 
 told : (rule : Rule) → IsFormed rule → (widths : List Width) → is_typing rule widths ≡ true → (many : Bool) (found : Option (List ℕ)) → many ≡ nat_lt 16 (free_bits rule widths)
     → found ≡ first_difference rule widths → Told rule widths (cause_of_trial (cond many trial.TooMany (trial_answer found)))
@@ -131,114 +129,122 @@ abbrev Judged : Rule → List Width → Option Proof → Option RuleCause → Ty
 Judged rule widths evidence None = IsGood rule widths evidence
 Judged rule widths evidence (Some cause) = IsBad rule widths evidence cause
 
-judged_by_trial : (rule : Rule) (widths : List Width) (found : Option RuleCause) → Told rule widths found → Judged rule widths (Some proof.Cases) found
+judged_by_trial : (rule : Rule) (widths : List Width) (found : Option RuleCause) → Told rule widths found → Judged rule widths (Some said.Cases) found
 judged_by_trial rule widths None told = record { trial = tt; few = told.0; equal = told.1 }
 judged_by_trial rule widths (Some cause) told = told
 
 judged_by : (rule : Rule) → IsFormed rule → (widths : List Width) → is_typing rule widths ≡ true → (evidence : Option Proof) → Judged rule widths evidence (cause_by rule widths evidence)
 judged_by rule formed widths typing None = refl
-judged_by rule formed widths typing (Some proof.Cases) = judged_by_trial rule widths (cause_of_trial (trial_of rule widths)) (told_of_trial rule formed widths typing)
-judged_by rule formed widths typing (Some (proof.Derive steps)) = tt
-judged_by rule formed widths typing (Some (proof.Logged log)) = tt
+judged_by rule formed widths typing (Some said.Cases) = judged_by_trial rule widths (cause_of_trial (trial_of rule widths)) (told_of_trial rule formed widths typing)
+judged_by rule formed widths typing (Some (said.Derive steps)) = tt
+judged_by rule formed widths typing (Some (said.Logged log)) = tt
 
-judged : (entry : Entry) → IsFormed entry.rule → (number : ℕ) (widths : List Width) → is_typing entry.rule widths ≡ true → Judged entry.rule widths (chosen_line number entry.lines) (cause_at entry number widths)
+judged : (claim : Claim) → IsFormed claim.rule → (number : ℕ) (widths : List Width) → is_typing claim.rule widths ≡ true → Judged claim.rule widths (chosen_line number claim.lines) (cause_at claim number widths)
 unfolding cause_at
-judged entry formed number widths typing = judged_by entry.rule formed widths typing (chosen_line number entry.lines)
+judged claim formed number widths typing = judged_by claim.rule formed widths typing (chosen_line number claim.lines)
 
 -- ---- the first typing without good evidence
 
 -- the typings of a list from a number on, each before one has good evidence
-abbrev GoodFrom : Entry → ℕ → List (List Width) → ℕ → Type 0
-GoodFrom entry from list count = (k : ℕ) (widths : List Width) → k < count → slice_get list k ≡ Some widths → IsGood entry.rule widths (chosen_line (from + k) entry.lines)
+abbrev GoodFrom : Claim → ℕ → List (List Width) → ℕ → Type 0
+GoodFrom claim from list count = (k : ℕ) (widths : List Width) → k < count → slice_get list k ≡ Some widths → IsGood claim.rule widths (chosen_line (from + k) claim.lines)
 
-record BadAmong (entry : Entry) (from : ℕ) (list : List (List Width)) (refused : Refused) : Type 0 where
+record BadAmong (claim : Claim) (from : ℕ) (list : List (List Width)) (refused : Refused) : Type 0 where
   place : ℕ
   widths : List Width
   cause : RuleCause
-  is : refused ≡ refused_at entry (from + place) cause
+  is : refused ≡ refused_at claim (from + place) cause
   at : slice_get list place ≡ Some widths
-  bad : IsBad entry.rule widths (chosen_line (from + place) entry.lines) cause
-  before : GoodFrom entry from list place
+  bad : IsBad claim.rule widths (chosen_line (from + place) claim.lines) cause
+  before : GoodFrom claim from list place
 
-abbrev Among : Entry → ℕ → List (List Width) → Option Refused → Type 0
-Among entry from list None = AllByRecursion (EqualAt entry.rule) list
-Among entry from list (Some refused) = BadAmong entry from list refused
+abbrev Among : Claim → ℕ → List (List Width) → Option Refused → Type 0
+Among claim from list None = AllByRecursion (EqualAt claim.rule) list
+Among claim from list (Some refused) = BadAmong claim from list refused
 
-good_more : (entry : Entry) (from : ℕ) (widths : List Width) (rest : List (List Width)) (count : ℕ) → IsGood entry.rule widths (chosen_line from entry.lines) → GoodFrom entry (from + 1) rest count → GoodFrom entry from (widths ∷ rest) (suc count)
-good_more entry from widths rest count here behind zero others less at =
+good_more : (claim : Claim) (from : ℕ) (widths : List Width) (rest : List (List Width)) (count : ℕ) → IsGood claim.rule widths (chosen_line from claim.lines) → GoodFrom claim (from + 1) rest count → GoodFrom claim from (widths ∷ rest) (suc count)
+good_more claim from widths rest count here behind zero others less at =
     let same : widths ≡ others = cc in
-    subst (λ w. IsGood entry.rule w (chosen_line (from + 0) entry.lines)) same (subst (λ n. IsGood entry.rule widths (chosen_line n entry.lines)) (let e : from ≡ from + 0 = omega arith in e) here)
-good_more entry from widths rest count here behind (suc k) others less at =
-    subst (λ n. IsGood entry.rule others (chosen_line n entry.lines)) (let e : from + 1 + k ≡ from + suc k = omega arith in e) (behind k others (omega (arith, less)) at)
+    subst (λ w. IsGood claim.rule w (chosen_line (from + 0) claim.lines)) same (subst (λ n. IsGood claim.rule widths (chosen_line n claim.lines)) (let e : from ≡ from + 0 = omega arith in e) here)
+good_more claim from widths rest count here behind (suc k) others less at =
+    subst (λ n. IsGood claim.rule others (chosen_line n claim.lines)) (let e : from + 1 + k ≡ from + suc k = omega arith in e) (behind k others (omega (arith, less)) at)
 
-among_step : (entry : Entry) (from : ℕ) (widths : List Width) (rest : List (List Width)) (here : Option RuleCause) (later : Option Refused) → Judged entry.rule widths (chosen_line from entry.lines) here → Among entry (from + 1) rest later
-    → Among entry from (widths ∷ rest) (option_or (option_map (refused_at entry from) here) later)
-among_step entry from widths rest (Some cause) later bad behind = record {
+among_step : (claim : Claim) (from : ℕ) (widths : List Width) (rest : List (List Width)) (here : Option RuleCause) (later : Option Refused) → Judged claim.rule widths (chosen_line from claim.lines) here → Among claim (from + 1) rest later
+    → Among claim from (widths ∷ rest) (option_or (option_map (refused_at claim from) here) later)
+among_step claim from widths rest (Some cause) later bad behind = record {
   place = 0;
   widths = widths;
   cause = cause;
-  is = ap (λ n. refused_at entry n cause) (let e : from ≡ from + 0 = omega arith in e);
+  is = ap (λ n. refused_at claim n cause) (let e : from ≡ from + 0 = omega arith in e);
   at = refl;
-  bad = subst (λ n. IsBad entry.rule widths (chosen_line n entry.lines) cause) (let e : from ≡ from + 0 = omega arith in e) bad;
+  bad = subst (λ n. IsBad claim.rule widths (chosen_line n claim.lines) cause) (let e : from ≡ from + 0 = omega arith in e) bad;
   before = λ k others less at. absurd (omega (arith, less));
 }
-among_step entry from widths rest None None good behind = (good.equal, behind)
-among_step entry from widths rest None (Some refused) good behind = record {
+among_step claim from widths rest None None good behind = (good.equal, behind)
+among_step claim from widths rest None (Some refused) good behind = record {
   place = suc behind.place;
   widths = behind.widths;
   cause = behind.cause;
-  is = behind.is ∙ ap (λ n. refused_at entry n behind.cause) (let e : from + 1 + behind.place ≡ from + suc behind.place = omega arith in e);
+  is = behind.is ∙ ap (λ n. refused_at claim n behind.cause) (let e : from + 1 + behind.place ≡ from + suc behind.place = omega arith in e);
   at = behind.at;
-  bad = subst (λ n. IsBad entry.rule behind.widths (chosen_line n entry.lines) behind.cause) (let e : from + 1 + behind.place ≡ from + suc behind.place = omega arith in e) behind.bad;
-  before = good_more entry from widths rest behind.place good behind.before;
+  bad = subst (λ n. IsBad claim.rule behind.widths (chosen_line n claim.lines) behind.cause) (let e : from + 1 + behind.place ≡ from + suc behind.place = omega arith in e) behind.bad;
+  before = good_more claim from widths rest behind.place good behind.before;
 }
 
-among : (entry : Entry) → IsFormed entry.rule → (from : ℕ) (list : List (List Width)) → AllByRecursion (λ widths. is_typing entry.rule widths ≡ true) list → Among entry from list (refused_among entry from list)
-among entry formed from [] all = tt
-among entry formed from (widths ∷ rest) all =
-    among_step entry from widths rest (cause_at entry from widths) (refused_among entry (from + 1) rest) (judged entry formed from widths all.0) (among entry formed (from + 1) rest all.1)
+among : (claim : Claim) → IsFormed claim.rule → (from : ℕ) (list : List (List Width)) → AllByRecursion (λ widths. is_typing claim.rule widths ≡ true) list → Among claim from list (refused_among claim from list)
+among claim formed from [] all = tt
+among claim formed from (widths ∷ rest) all =
+    among_step claim from widths rest (cause_at claim from widths) (refused_among claim (from + 1) rest) (judged claim formed from widths all.0) (among claim formed (from + 1) rest all.1)
 
-among_typings : (entry : Entry) → IsFormed entry.rule → Among entry 0 (typings entry.rule) (refused_among entry 0 (typings entry.rule))
-among_typings entry formed = among entry formed 0 (typings entry.rule) (all_typings entry.rule (λ widths. is_typing entry.rule widths ≡ true) (λ widths typing. typing))
+among_typings : (claim : Claim) → IsFormed claim.rule → Among claim 0 (typings claim.rule) (refused_among claim 0 (typings claim.rule))
+among_typings claim formed = among claim formed 0 (typings claim.rule) (all_typings claim.rule (λ widths. is_typing claim.rule widths ≡ true) (λ widths typing. typing))
 
 -- ---- the verdict on a rule
 
-accepted : (entry : Entry) (fault : Option SizeFault) → refused_for entry fault ≡ None → (fault ≡ None) × (refused_among entry 0 (typings entry.rule) ≡ None)
-accepted entry (Some fault) none = cc
-accepted entry None none = (refl, none)
+accepted : (claim : Claim) (fault : Option SizeFault) → refused_for claim fault ≡ None → (fault ≡ None) × (refused_among claim 0 (typings claim.rule) ≡ None)
+accepted claim (Some fault) none = cc
+accepted claim None none = (refl, none)
 
-pub accepted_hold : AcceptedHold
-unfolding refusal_of
-accepted_hold entry formed none =
-    let parts = accepted entry (size_fault entry.rule) none in
-    let equal : AllByRecursion (EqualAt entry.rule) (typings entry.rule) = subst (Among entry 0 (typings entry.rule)) parts.1 (among_typings entry formed) in
-    let definite = none_means entry.rule parts.0 in
+claims_hold : (claim : Claim) → IsFormed claim.rule → refusal_on claim ≡ None → Holds claim.rule
+unfolding refusal_on
+claims_hold claim formed none =
+    let parts = accepted claim (size_fault claim.rule) none in
+    let equal : AllByRecursion (EqualAt claim.rule) (typings claim.rule) = subst (Among claim 0 (typings claim.rule)) parts.1 (among_typings claim formed) in
+    let definite = none_means claim.rule parts.0 in
     record {
       unambiguous = λ widths others typing other same. definite widths others typing other same;
-      equal = λ widths typing. each_typing entry.rule (EqualAt entry.rule) equal widths typing;
+      equal = λ widths typing. each_typing claim.rule (EqualAt claim.rule) equal widths typing;
     }
 
-first_bad : (entry : Entry) (refused : Refused) → size_fault entry.rule ≡ None → BadAmong entry 0 (typings entry.rule) refused → IsRefusal entry refused
-first_bad entry refused sizes bad =
+first_bad : (claim : Claim) (refused : Refused) → size_fault claim.rule ≡ None → BadAmong claim 0 (typings claim.rule) refused → IsRefusal claim refused
+first_bad claim refused sizes bad =
     let e : 0 + bad.place ≡ bad.place = omega arith in
-    subst (IsRefusal entry) (sym (bad.is ∙ ap (λ n. refused_at entry n bad.cause) e))
+    subst (IsRefusal claim) (sym (bad.is ∙ ap (λ n. refused_at claim n bad.cause) e))
     (record {
       rule = refl;
       cause = record {
         sizes = sizes;
         widths = bad.widths;
         at = bad.at;
-        bad = subst (λ n. IsBad entry.rule bad.widths (chosen_line n entry.lines) bad.cause) e bad.bad;
-        before = λ k widths less at. subst (λ n. IsGood entry.rule widths (chosen_line n entry.lines)) (let f : 0 + k ≡ k = omega arith in f) (bad.before k widths less at);
+        bad = subst (λ n. IsBad claim.rule bad.widths (chosen_line n claim.lines) bad.cause) e bad.bad;
+        before = λ k widths less at. subst (λ n. IsGood claim.rule widths (chosen_line n claim.lines)) (let f : 0 + k ≡ k = omega arith in f) (bad.before k widths less at);
       };
     })
 
-refused_case : (entry : Entry) (fault : Option SizeFault) (refused : Refused) → fault ≡ size_fault entry.rule → IsFormed entry.rule → refused_for entry fault ≡ Some refused → IsRefusal entry refused
-refused_case entry (Some fault) refused is formed told =
-    let same : refused_by_size entry fault ≡ refused = cc in
-    subst (IsRefusal entry) same (record { rule = refl; cause = fault_means entry.rule fault (sym is) })
-refused_case entry None refused is formed told = first_bad entry refused (sym is) (subst (Among entry 0 (typings entry.rule)) told (among_typings entry formed))
+refused_case : (claim : Claim) (fault : Option SizeFault) (refused : Refused) → fault ≡ size_fault claim.rule → IsFormed claim.rule → refused_for claim fault ≡ Some refused → IsRefusal claim refused
+refused_case claim (Some fault) refused is formed told =
+    let same : refused_by_size claim fault ≡ refused = cc in
+    subst (IsRefusal claim) same (record { rule = refl; cause = fault_means claim.rule fault (sym is) })
+refused_case claim None refused is formed told = first_bad claim refused (sym is) (subst (Among claim 0 (typings claim.rule)) told (among_typings claim formed))
+
+claims_are_just : (claim : Claim) (refused : Refused) → IsFormed claim.rule → refusal_on claim ≡ Some refused → IsRefusal claim refused
+unfolding refusal_on
+claims_are_just claim refused formed told = refused_case claim (size_fault claim.rule) refused refl formed told
+
+-- ---- what a file says of its entries is what they claim
+
+pub accepted_hold : AcceptedHold
+accepted_hold entry formed none = claims_hold (claim_of entry) formed (refusal_as_said entry ∙ none)
 
 pub refused_are_just : RefusedAreJust
-unfolding refusal_of
-refused_are_just entry refused formed told = refused_case entry (size_fault entry.rule) refused refl formed told
+refused_are_just entry refused formed told = claims_are_just (claim_of entry) refused formed (refusal_as_said entry ∙ told)

@@ -1,13 +1,14 @@
 //! The evidence of a rule, typing by typing.
 
-ghost use Rattle.std.specs.Prelude.{◌≡◌, ◌≤◌, true, length, find, IfOk, Some};
+ghost use Rattle.std.specs.Prelude.{◌≡◌, ◌≤◌, true, length, find, map, IfOk, Some};
 ghost use Rattle.std.specs.List.{All};
 ghost use Rattle.std.specs.Option.{option_map};
 ghost use Rattle.rule_check.specs.Lines.{is_for, kind_of};
 ghost use Rattle.rule_term.specs.Formed.{IsFormed};
 ghost use Rattle.rule_term.specs.Typings.{is_typing};
 ghost use Rattle.size_infer.specs.Grown.{all_widths_of};
-ghost use Rattle.rule_check.specs.Accepted.{cause_at, cause_of_trial, chosen_line, refusal_of, refused_among, refused_by_size};
+ghost use Rattle.rule_read.specs.Says.{entry_says, line_says, proof_says};
+ghost use Rattle.rule_check.specs.Accepted.{cause_at, cause_of_trial, chosen_line, claim_of, refusal_of, refused_among, refused_by_size};
 ghost use Rattle.rule_check.specs.Cases.{trial_of};
 
 use crate::cases::{Trial, try_cases};
@@ -33,7 +34,7 @@ enum Kind {
 /// What memory it takes is free again at the end, but for the values that it answers.
 #[tactic(auto, using(crate::proofs::EvidenceLemmas::told_by_evidence, crate::proofs::EvidenceLemmas::told_by_size))]
 pub fn refusal_of(alloc: Global, entry: &Entry) -> Result<Option<Refused>, OutOfMemory>
-    ensures value { IfOk result (λ refused. refused ≡ refusal_of entry.now) }
+    ensures value { IfOk result (λ refused. refused ≡ refusal_of (entry_says entry.now)) }
     ensures formed { IsFormed entry.now.rule }
 {
     // The proof learns that the rule is formed.
@@ -58,7 +59,7 @@ fn refused_among(
 ) -> Result<Option<Refused>, OutOfMemory>
     requires each { All (λ typing. is_typing entry.now.rule typing.widths ≡ true) list.now }
     requires few { length list.now ≤ 64 }
-    ensures { IfOk result (λ refused. refused ≡ refused_among entry.now 0 (all_widths_of list.now)) }
+    ensures { IfOk result (λ refused. refused ≡ refused_among (claim_of entry.now) 0 (all_widths_of list.now)) }
 {
     for (at, typing) in list.iter().enumerate() {
         let number = at as u32;
@@ -82,7 +83,7 @@ fn cause_at(
     typing: &Typing,
 ) -> Result<Option<RuleCause>, OutOfMemory>
     requires { is_typing entry.now.rule typing.now.widths ≡ true }
-    ensures { IfOk result (λ cause. cause ≡ cause_at entry.now number typing.now.widths) }
+    ensures { IfOk result (λ cause. cause ≡ cause_at (claim_of entry.now) number typing.now.widths) }
 {
     match kind_chosen(entry.lines.as_slice(), number) {
         Kind::Cases => cause_of_trial(alloc, &entry.rule, typing),
@@ -110,7 +111,7 @@ fn cause_of_trial(
 /// The evidence at the typing of the number: the first line for it alone, else the first for all typings.
 #[tactic(auto, using(crate::proofs::EvidenceLemmas::kind_missing, crate::proofs::EvidenceLemmas::kind_cases, crate::proofs::EvidenceLemmas::kind_unchecked))]
 fn kind_chosen(lines: &[Line], number: u32) -> Kind
-    ensures { result ≡ kind_of (chosen_line number lines.now) }
+    ensures { result ≡ kind_of (chosen_line number (map line_says lines.now)) }
 {
     match first_by(lines, Some(number)) {
         Kind::Missing => first_by(lines, None),
@@ -121,7 +122,7 @@ fn kind_chosen(lines: &[Line], number: u32) -> Kind
 
 /// The evidence of the first line for this typing, or for all typings.
 fn first_by(lines: &[Line], typing: Option<u32>) -> Kind
-    ensures { result ≡ kind_of (option_map (λ line. line.proof) (find (is_for typing) lines.now)) }
+    ensures { result ≡ kind_of (option_map (λ line. line.proof) (find (is_for typing) (map line_says lines.now))) }
 {
     for line in lines {
         if is_for(line, typing) {
@@ -133,7 +134,7 @@ fn first_by(lines: &[Line], typing: Option<u32>) -> Kind
 
 /// Whether the line is for this typing, or for all.
 fn is_for(line: &Line, typing: Option<u32>) -> bool
-    ensures { result ≡ is_for typing line.now }
+    ensures { result ≡ is_for typing (line_says line.now) }
 {
     match (line.typing, typing) {
         (Some(own), Some(sought)) => own == sought,
@@ -143,7 +144,7 @@ fn is_for(line: &Line, typing: Option<u32>) -> bool
 }
 
 fn kind_of(proof: &Proof) -> Kind
-    ensures { result ≡ kind_of (Some proof.now) }
+    ensures { result ≡ kind_of (Some (proof_says proof.now)) }
 {
     match proof {
         Proof::Cases => Kind::Cases,
@@ -154,7 +155,7 @@ fn kind_of(proof: &Proof) -> Kind
 
 /// The refusal for a fault of the sizes.
 fn refused_by_size(entry: &Entry, fault: SizeFault) -> Refused
-    ensures { result ≡ refused_by_size entry.now fault }
+    ensures { result ≡ refused_by_size (claim_of entry.now) fault }
 {
     Refused {
         rule: entry.rule.number,

@@ -1,11 +1,12 @@
 //! Rule files: which rules are accepted.
 
-ghost use Rattle.std.specs.Prelude.{◌≡◌, ◌≢◌, ◌≤◌, [], IfOk};
+ghost use Rattle.std.specs.Prelude.{◌≡◌, ◌≢◌, ◌≤◌, [], map, IfOk};
 ghost use Rattle.nir_ops.specs.declared.op.Op.TheVariants.{Mov};
 ghost use Rattle.nir_ops.specs.declared.op.Op.{Op as Opcode};
 ghost use Rattle.rule_term.specs.Table.{op_weight};
 ghost use Rattle.rule_read.specs.RuleFile.{AreWeights};
-ghost use Rattle.rule_check.specs.Accepted.{accepted, refusals, rules_of, weight_in};
+ghost use Rattle.rule_read.specs.Says.{weight_says};
+ghost use Rattle.rule_check.specs.Accepted.{accepted, entries_say, refusals, weight_in};
 ghost use Rattle.rule_check.specs.Answers.{IsVerdict};
 ghost use Rattle.rule_check.specs.Verdicts.{AcceptedHold, IsJust, RefusedAreJust};
 
@@ -24,7 +25,7 @@ use std::alloc::Global;
 pub fn check_file(alloc: Global, file: RuleFile) -> Result<Table, CheckFault>
     ensures verdict { IsVerdict file.entries result }
     ensures just { IsJust file.entries result }
-    ensures weights { IfOk result (λ table. (op : Opcode) → op_weight table op ≡ weight_in file.weights op) }
+    ensures weights { IfOk result (λ table. (op : Opcode) → op_weight table op ≡ weight_in (map weight_says file.weights) op) }
 {
     let mut table = weighed(alloc, file.weights.as_slice());
     for entry in file.entries.into_vec() {
@@ -41,8 +42,8 @@ pub fn check_file(alloc: Global, file: RuleFile) -> Result<Table, CheckFault>
 /// and a refusal for each other rule, in order. `OutOfMemory` may come at any time.
 pub fn check_file_skipping(alloc: Global, file: RuleFile) -> Result<Checked, OutOfMemory>
     ensures rules { IfOk result (λ checked. checked.table.rules ≡ accepted file.entries) }
-    ensures weights { IfOk result (λ checked. (op : Opcode) → op_weight checked.table op ≡ weight_in file.weights op) }
-    ensures refused { IfOk result (λ checked. checked.refused ≡ refusals file.entries) }
+    ensures weights { IfOk result (λ checked. (op : Opcode) → op_weight checked.table op ≡ weight_in (map weight_says file.weights) op) }
+    ensures refused { IfOk result (λ checked. checked.refused ≡ refusals (entries_say file.entries)) }
 {
     let mut table = weighed(alloc, file.weights.as_slice());
     let mut refused = RefusedList::new(alloc);
@@ -66,7 +67,7 @@ pub fn check_file_skipping(alloc: Global, file: RuleFile) -> Result<Checked, Out
 fn weighed(alloc: Global, weights: &[WeightLine]) -> Table
     requires { AreWeights weights.now }
     ensures rules { result.rules ≡ [] }
-    ensures weights { (op : Opcode) → op_weight result op ≡ weight_in weights.now op }
+    ensures weights { (op : Opcode) → op_weight result op ≡ weight_in (map weight_says weights.now) op }
 {
     let mut table = Table::new(alloc);
     for line in weights {

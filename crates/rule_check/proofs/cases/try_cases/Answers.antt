@@ -1,4 +1,4 @@
-use Rattle.std.proofs.Common.{◌≡◌, ◌≤◌, ap, sym, ◌∙◌, arith, length, Some, None, rules}
+use Rattle.std.proofs.Common.{◌≤◌, ap, ◌∙◌, arith, length, Some, None}
 use Rattle.std.specs.List.{sum}
 use Rattle.rule_check.proofs.Trials.{free_bits-le, trial-many, trial-few}
 use Rattle.rule_check.proofs.cases.try_cases.Goals as goal

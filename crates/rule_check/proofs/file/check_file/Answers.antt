@@ -1,4 +1,4 @@
-use Rattle.std.proofs.Common.{◌≡◌, ◌+◌, ◌++◌, ◌∷◌, [], Some, None, length, List, take, drop, sym, ◌∙◌, ap, subst, arith, append_assoc}
+use Rattle.std.proofs.Common.{◌≡◌, ◌+◌, ◌++◌, ◌∷◌, [], None, length, List, take, drop, sym, ◌∙◌, ap, subst, arith, append_assoc}
 use Rattle.std.specs.List.{AllByRecursion}
 use Rattle.std.proofs.lemmas.List.{length_push}
 use Rattle.std.proofs.lemmas.Iterator.Adapters.{YieldsList-from_vec}
@@ -6,8 +6,9 @@ use Rattle.std.proofs.lemmas.Iterator.Consumers.{YieldsList-turn}
 use Rattle.rule_term.specs.Rule.{Rule}
 use Rattle.rule_term.specs.Table.{AllBelow}
 use Rattle.rule_term.specs.Weights.{weight_at}
+use Rattle.rule_read.specs.Says.{entry_says}
 use Rattle.rule_read.specs.RuleFile.{RuleFile, AreNumbered}
-use Rattle.rule_check.specs.Accepted.{refusal_of, refusals, rules_of}
+use Rattle.rule_check.specs.Accepted.{entries_say, refusal_of, refusals, rules_of}
 use Rattle.rule_check.specs.Verdicts.{HasHolding}
 use Rattle.rule_check.specs.VerdictsLaws.{accepted_hold, refused_are_just}
 use Rattle.rule_check.proofs.Refusals.{all-more, below-more, number-at, placed-at, refusals-past, rules-at}
@@ -39,7 +40,7 @@ loop-entry-preserved c =
     let entry = c.in-Some.entry in
     let number : entry.rule.number ≡ 0 + k = number-at entries 0 k entry at numbered in
     let same : entry.rule.number ≡ k = omega (arith, number) in
-    let none : refusal_of entry ≡ None = sym (c.in_ok-refused.ensures.value) ∙ c.in_default.is in
+    let none : refusal_of (entry_says entry) ≡ None = sym (c.in_ok-refused.ensures.value) ∙ c.in_default.is in
     let one_more : k + 1 ≡ length (c.loop-entry.yielded ++ entry ∷ []) = sym (length_push c.loop-entry.yielded entry) in
     let added : c.add.new.self.rules ≡ c.loop-entry.table.rules ++ entry.rule ∷ [] = c.in_ok-add.ensures.ok in (
       tt,
@@ -49,7 +50,7 @@ loop-entry-preserved c =
           ∙ append_assoc c.loop-entry.table.rules (entry.rule ∷ []) (rules_of (drop (k + 1) entries))
           ∙ ap (λ l. c.loop-entry.table.rules ++ l) (sym (rules-at entries k entry at))
           ∙ c.loop-entry.invariant.2,
-      ap (λ n. refusals (drop n entries)) (sym one_more) ∙ sym (refusals-past entries k entry at none) ∙ c.loop-entry.invariant.3,
+      ap (λ n. refusals (entries_say (drop n entries))) (sym one_more) ∙ sym (refusals-past entries k entry at none) ∙ c.loop-entry.invariant.3,
       subst (λ (t : List Rule). AllBelow (length (c.loop-entry.yielded ++ entry ∷ [])) t) (sym added)
           (subst (λ n. AllBelow n (c.loop-entry.table.rules ++ entry.rule ∷ [])) one_more (below-more c.loop-entry.table.rules entry.rule k c.loop-entry.invariant.4 same)),
       subst (λ n. AllByRecursion HasHolding (take n entries)) one_more

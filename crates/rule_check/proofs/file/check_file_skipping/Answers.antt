@@ -5,9 +5,10 @@ use Rattle.std.proofs.lemmas.Iterator.Consumers.{YieldsList-turn}
 use Rattle.rule_term.specs.Rule.{Rule}
 use Rattle.rule_term.specs.Table.{AllBelow}
 use Rattle.rule_term.specs.Weights.{weight_at}
+use Rattle.rule_read.specs.Says.{entry_says}
 use Rattle.rule_read.specs.RuleFile.{RuleFile, AreNumbered}
 use Rattle.rule_check.specs.declared.refused.Refused.{Refused}
-use Rattle.rule_check.specs.Accepted.{accepted, refusal_of, refusals}
+use Rattle.rule_check.specs.Accepted.{accepted, entries_say, refusal_of, refusals}
 use Rattle.rule_check.specs.VerdictsLaws.{accepted_hold}
 use Rattle.rule_check.proofs.Refusals.{accepted-here, accepted-past, below-more, below-next, number-at, refusals-here, refusals-past}
 use Rattle.rule_check.proofs.file.check_file_skipping.Goals as goal
@@ -38,7 +39,7 @@ loop-entry-preserved c =
     let entry = c.in-Some.entry in
     let number : entry.rule.number ≡ 0 + k = number-at entries 0 k entry at numbered in
     let same : entry.rule.number ≡ k = omega (arith, number) in
-    let none : refusal_of entry ≡ None = sym (c.in_ok-one.ensures.value) ∙ c.in-None-2.is in
+    let none : refusal_of (entry_says entry) ≡ None = sym (c.in_ok-one.ensures.value) ∙ c.in-None-2.is in
     let one_more : k + 1 ≡ length (c.loop-entry.yielded ++ entry ∷ []) = sym (length_push c.loop-entry.yielded entry) in
     let added : c.add.new.self.rules ≡ c.loop-entry.table.rules ++ entry.rule ∷ [] = c.in_ok-add-in-None-2.ensures.ok in (
       tt,
@@ -48,7 +49,7 @@ loop-entry-preserved c =
           ∙ append_assoc c.loop-entry.table.rules (entry.rule ∷ []) (accepted (drop (k + 1) entries))
           ∙ ap (λ l. c.loop-entry.table.rules ++ l) (sym (accepted-here entries k entry at none))
           ∙ c.loop-entry.invariant.2,
-      ap (λ n. c.loop-entry.refused ++ refusals (drop n entries)) (sym one_more)
+      ap (λ n. c.loop-entry.refused ++ refusals (entries_say (drop n entries))) (sym one_more)
           ∙ ap (λ l. c.loop-entry.refused ++ l) (sym (refusals-past entries k entry at none))
           ∙ c.loop-entry.invariant.3,
       subst (λ (t : List Rule). AllBelow (length (c.loop-entry.yielded ++ entry ∷ [])) t) (sym added)
@@ -65,7 +66,7 @@ loop-entry-preserved-in-Some-branch-2 c =
     let entries = c.args.file.entries in
     let k = length c.loop-entry.yielded in
     let entry = c.in-Some.entry in
-    let some : refusal_of entry ≡ Some c.in-Some-2.one = sym (c.in_ok-one.ensures.value) ∙ c.in-Some-2.is in
+    let some : refusal_of (entry_says entry) ≡ Some c.in-Some-2.one = sym (c.in_ok-one.ensures.value) ∙ c.in-Some-2.is in
     let one_more : k + 1 ≡ length (c.loop-entry.yielded ++ entry ∷ []) = sym (length_push c.loop-entry.yielded entry) in
     let told : c.push.new.self ≡ c.loop-entry.refused ++ c.in-Some-2.one ∷ [] = c.in_ok-push-in-Some-2.ensures.ok in (
       tt,
@@ -73,9 +74,9 @@ loop-entry-preserved-in-Some-branch-2 c =
       ap (λ n. c.loop-entry.table.rules ++ accepted (drop n entries)) (sym one_more)
           ∙ ap (λ l. c.loop-entry.table.rules ++ l) (sym (accepted-past entries k entry c.in-Some-2.one at some))
           ∙ c.loop-entry.invariant.2,
-      ap (λ (l : List Refused). l ++ refusals (drop (length (c.loop-entry.yielded ++ entry ∷ [])) entries)) told
-          ∙ ap (λ n. (c.loop-entry.refused ++ c.in-Some-2.one ∷ []) ++ refusals (drop n entries)) (sym one_more)
-          ∙ append_assoc c.loop-entry.refused (c.in-Some-2.one ∷ []) (refusals (drop (k + 1) entries))
+      ap (λ (l : List Refused). l ++ refusals (entries_say (drop (length (c.loop-entry.yielded ++ entry ∷ [])) entries))) told
+          ∙ ap (λ n. (c.loop-entry.refused ++ c.in-Some-2.one ∷ []) ++ refusals (entries_say (drop n entries))) (sym one_more)
+          ∙ append_assoc c.loop-entry.refused (c.in-Some-2.one ∷ []) (refusals (entries_say (drop (k + 1) entries)))
           ∙ ap (λ l. c.loop-entry.refused ++ l) (sym (refusals-here entries k entry c.in-Some-2.one at some))
           ∙ c.loop-entry.invariant.3,
       subst (λ n. AllBelow n c.loop-entry.table.rules) one_more (below-next c.loop-entry.table.rules k c.loop-entry.invariant.4),

@@ -1,6 +1,7 @@
-use Rattle.std.proofs.Common.{◌≤◌, length, sym, ◌∙◌, arith}
+use Rattle.std.proofs.Common.{map, sym, ◌∙◌, arith}
 use Rattle.std.proofs.lemmas.List.{at_drop_all}
 use Rattle.rule_term.specs.Table.{op_weight}
+use Rattle.rule_read.specs.Says.{weight_says}
 use Rattle.rule_check.specs.Accepted.{weight_or}
 use Rattle.rule_check.proofs.FileWeights.{asked-at, not_mov, weights-step}
 use Rattle.rule_check.proofs.file.weighed.Goals as goal
@@ -23,5 +24,5 @@ loop-line-preserved c = record {
 pub returns-clause-weights : goal.returns-clause-weights
 returns-clause-weights c o =
     let past = c.loop-line-test.false in
-    sym (at_drop_all (λ l. weight_or l (op_weight c.loop-line.table o) o) c.args.weights.now c.loop-line.line-index (omega (arith, past)))
+    sym (at_drop_all (λ l. weight_or (map weight_says l) (op_weight c.loop-line.table o) o) c.args.weights.now c.loop-line.line-index (omega (arith, past)))
     ∙ c.loop-line.invariant.weights o
