@@ -1,5 +1,5 @@
 -- A call of `run_check`: what its status says where it stopped, and where its lines were written, and that its promises are kept.
-use Rattle.std.specs.Prelude.{◌≡◌, refl, ◌↔◌, ◌≢◌, ◌⊎◌, ℕ, Bool, true, false, List, [], ◌∷◌, Option, Some, Ok, Err, if◌then◌else◌}
+use Rattle.std.specs.Prelude.{◌≡◌, refl, ◌↔◌, ◌≢◌, ◌⊎◌, ℕ, true, false, List, [], ◌∷◌, Some, Ok, if◌then◌else◌}
 use Rattle.std.proofs.Common.{◌∙◌, ap, inl, inr, subst, sym}
 use Rattle.std.proofs.lemmas.Bool.{true≢false}
 use Rattle.nir_host.specs.declared.fault.Which.TheVariants.{Rules, Shader}
@@ -7,14 +7,15 @@ use Rattle.nir_host.specs.Told.{Gains}
 use Rattle.nir_host.specs.Whole.{TakesFront}
 use Rattle.rule_check.specs.Accepted.{refusals}
 use Rattle.rule_check.specs.declared.refused.Refused.{Refused}
-use Rattle.rule_read.specs.RuleFile.{RuleFile}
+use Rattle.rule_spelling.specs.Files.{File}
+use Rattle.term_read.specs.declared.fault.RuleFault.{RuleFault}
 use Rattle.run_words.specs.RunWords.{is_rules_alone}
 use Rattle.nir_mean.specs.ShaderLines.{TakesLine}
 use Rattle.nir_mean.specs.ShaderText.{ReadsToEnd}
 use Rattle.nir_opt.specs.declared.status.Status.{Status}
-use Rattle.nir_opt.specs.declared.status.Status.TheVariants.{Usage, ReadFault, WriteFault, RuleRefused, ShaderSyntax, ShaderInvalid, OutOfMemory, NotBuilt}
+use Rattle.nir_opt.specs.declared.status.Status.TheVariants.{Usage, ReadFault, WriteFault, RulesSyntax, RuleRefused, ShaderSyntax, ShaderInvalid, OutOfMemory}
 use Rattle.nir_opt.specs.declared.status.Status.TheVariants as status
-use Rattle.nir_opt.specs.Answers.{check_usage_line, IsToldAs, line_with}
+use Rattle.nir_opt.specs.Answers.{check_usage_line, is_of_rule_text, IsToldAs, line_with}
 use Rattle.nir_opt.specs.Asked.{asked_to_check, Fits, IsAsked, is_free, rules_answer, stage_of, verdict, verdict_on}
 use Rattle.nir_opt.specs.Checked.{check_text, is_of_check, is_whole, RanCheck}
 use Rattle.nir_opt.specs.Ran.{ReadFaults, Reading, WriteFaults, Writing}
@@ -32,13 +33,13 @@ is_end Usage fault ends = absurd ends
 is_end (ReadFault Rules) fault ends = record { kind = refl; idle = refl; asked_for = λ free. absurd (true≢false free) }
 is_end (ReadFault Shader) fault ends = absurd ends
 is_end WriteFault fault ends = absurd ends
+is_end (RulesSyntax of_text) fault ends = record { kind = refl; idle = refl; asked_for = λ _. refl }
 is_end (RuleRefused refused) fault ends = absurd ends
 is_end (ShaderSyntax of_text) fault ends = absurd ends
 is_end (ShaderInvalid rule item) fault ends = absurd ends
 is_end (status.TooLong Rules) fault ends = record { kind = refl; idle = refl; asked_for = λ _. refl }
 is_end (status.TooLong Shader) fault ends = absurd ends
 is_end OutOfMemory fault ends = record { kind = refl; idle = refl; asked_for = λ free. absurd (true≢false free) }
-is_end NotBuilt fault ends = record { kind = refl; idle = refl; asked_for = λ _. refl }
 
 -- what the sink of lines took
 abbrev pub Tells : Writing → Status → Type 0
@@ -52,6 +53,7 @@ module _ (given_words : List (List ℕ)) (rules : Reading) (out lines : Writing)
     kind : is_of_check ending ≡ true
     idle : is_whole ending ≡ false
     not_fault : ending ≢ WriteFault
+    syntax : (fault : RuleFault) → ending ≡ RulesSyntax fault → is_of_rule_text fault ≡ true
     rules_fault : ending ≡ ReadFault Rules → ReadFaults rules
     nothing_read : ending ≡ Usage → rules.left_after ≡ rules.left_before
 
@@ -60,6 +62,7 @@ module _ (given_words : List (List ℕ)) (rules : Reading) (out lines : Writing)
     words = stops.words;
     asks = stops.asks;
     kind = stops.kind;
+    syntax = stops.syntax;
     rules_fault = stops.rules_fault;
     write_fault = λ is. absurd (stops.not_fault is);
     nothing_read = stops.nothing_read;
@@ -77,6 +80,7 @@ module _ (given_words : List (List ℕ)) (rules : Reading) (out lines : Writing)
     kind = refl;
     idle = refl;
     not_fault = λ is. cc;
+    syntax = λ fault is. absurd (cc);
     rules_fault = λ is. absurd (cc);
     nothing_read = λ _. kept;
   }
@@ -88,6 +92,7 @@ module _ (given_words : List (List ℕ)) (rules : Reading) (out lines : Writing)
     kind = refl;
     idle = refl;
     not_fault = λ is. cc;
+    syntax = λ fault is. absurd (cc);
     rules_fault = λ is. absurd (cc);
     nothing_read = λ is. absurd (cc);
   }
@@ -105,6 +110,7 @@ module _ (given_words : List (List ℕ)) (rules : Reading) (out lines : Writing)
         kind = at.kind;
         idle = at.idle;
         not_fault = is_other WriteFault;
+        syntax = λ fault is. is_other (RulesSyntax fault) is;
         rules_fault = is_other (ReadFault Rules);
         nothing_read = λ is. absurd (is_other Usage is);
       }
@@ -145,13 +151,14 @@ module _ (given_words : List (List ℕ)) (rules : Reading) (out lines : Writing)
     whole : is_whole ending ≡ true
     not_usage : ending ≢ Usage
     not_read : ending ≢ ReadFault Rules
+    not_syntax : (fault : RuleFault) → ending ≢ RulesSyntax fault
     not_fault : ending ≢ WriteFault
 
   whole_verdict : (list : List Refused) → IsWhole (verdict list)
-  whole_verdict [] = record { kind = refl; whole = refl; not_usage = λ is. cc; not_read = λ is. cc; not_fault = λ is. cc }
-  whole_verdict (refused ∷ others) = record { kind = refl; whole = refl; not_usage = λ is. cc; not_read = λ is. cc; not_fault = λ is. cc }
+  whole_verdict [] = record { kind = refl; whole = refl; not_usage = λ is. cc; not_read = λ is. cc; not_syntax = λ fault is. cc; not_fault = λ is. cc }
+  whole_verdict (refused ∷ others) = record { kind = refl; whole = refl; not_usage = λ is. cc; not_read = λ is. cc; not_syntax = λ fault is. cc; not_fault = λ is. cc }
 
-  module _ (alone : is_rules_alone given_words ≡ true) (file : RuleFile) (reads : (text : List ℕ) → rules.left_before ≡ Some text → rules_answer true text ≡ Ok file)
+  module _ (alone : is_rules_alone given_words ≡ true) (file : File) (reads : (text : List ℕ) → rules.left_before ≡ Some text → rules_answer true text ≡ Ok file)
       (end : ReadsToEnd rules.left_before rules.left_after) where
     -- what is asked for is the verdict on the file
     asks_verdict : (text : List ℕ) → rules.left_before ≡ Some text → verdict (refusals file.entries) ≡ asked_to_check given_words text
@@ -165,6 +172,7 @@ module _ (given_words : List (List ℕ)) (rules : Reading) (out lines : Writing)
           words = (λ usage. absurd (is.not_usage usage), λ other. absurd (true≢false (sym alone ∙ other)));
           asks = λ text is_told _. asks_verdict text is_told;
           kind = is.kind;
+          syntax = λ fault same. absurd (is.not_syntax fault same);
           rules_fault = λ fault. absurd (is.not_read fault);
           write_fault = λ fault. absurd (is.not_fault fault);
           nothing_read = λ usage. absurd (is.not_usage usage);
@@ -181,6 +189,7 @@ module _ (given_words : List (List ℕ)) (rules : Reading) (out lines : Writing)
       words = (λ is. absurd (cc), λ other. absurd (true≢false (sym alone ∙ other)));
       asks = λ text _ free. absurd (true≢false free);
       kind = refl;
+      syntax = λ of_text is. absurd (cc);
       rules_fault = λ is. absurd (cc);
       write_fault = λ _. fault;
       nothing_read = λ is. absurd (cc);

@@ -1,5 +1,5 @@
 -- A run that came to its end: whether its text was taken whole or not, its promises are kept.
-use Rattle.std.specs.Prelude.{◌≡◌, refl, ◌≢◌, ◌⊎◌, ◌++◌, ℕ, Bool, true, false, List, [], Option, Some, Ok, IsOk, nat_le, nat_lt}
+use Rattle.std.specs.Prelude.{◌≡◌, refl, ◌++◌, ℕ, Bool, true, false, List, [], Some, Ok, IsOk, nat_le, nat_lt}
 use Rattle.std.proofs.Common.{◌∙◌, ap, inl, inr, subst, sym}
 use Rattle.std.proofs.lemmas.Bool.{true≢false}
 use Rattle.nir_host.specs.Told.{Gains}
@@ -9,7 +9,7 @@ use Rattle.nir_mean.specs.ShaderLines.{TakesLine}
 use Rattle.nir_mean.specs.ShaderText.{ReadsToEnd}
 use Rattle.rule_check.specs.Accepted.{refusals}
 use Rattle.rule_check.specs.declared.refused.Refused.{Refused}
-use Rattle.rule_read.specs.RuleFile.{RuleFile}
+use Rattle.rule_spelling.specs.Files.{File}
 use Rattle.run_words.specs.RunWords.{Given, run_words}
 use Rattle.nir_opt.specs.declared.printed.Printed.{Printed}
 use Rattle.nir_opt.specs.declared.status.Report.{Report}
@@ -52,7 +52,7 @@ module _ (given_words : List (List ℕ)) (said : Given) (reads : run_words given
     skips : (ending : Status) → nat_le (stage_of ending) 1 ≡ false → (ending ≡ OutOfMemory → ⊥) → AreSkipped given_words rules ending skipped
     skips ending late memory = record {
       early = λ early _. absurd (true≢false (sym early ∙ late));
-      behind = for_said given_words said reads (λ given. (text : List ℕ) → rules.left_before ≡ Some text → (file : RuleFile) → rules_answer given.skip text ≡ Ok file → nat_lt 1 (stage_of ending) ≡ true → skipped ≡ refusals file.entries)
+      behind = for_said given_words said reads (λ given. (text : List ℕ) → rules.left_before ≡ Some text → (file : File) → rules_answer given.skip text ≡ Ok file → nat_lt 1 (stage_of ending) ≡ true → skipped ≡ refusals file.entries)
           (λ text is file answer _. told_whole given_words said reads rules skipped run.told text is file answer);
       no_memory = λ is. absurd (memory is);
       off = for_said given_words said reads (λ given. given.skip ≡ false → skipped ≡ []) run.told.none;
@@ -69,6 +69,7 @@ module _ (given_words : List (List ℕ)) (said : Given) (reads : run_words given
       rules_text = rules_fit status.Ok refl;
       shader_text = shader_fits status.Ok refl;
       asks = λ rule_text shader_text rules_told shader_told _. asks_to_print rule_text shader_text rules_told shader_told;
+      rules_syntax = λ fault is. absurd (cc);
       syntax = λ fault is. absurd (cc);
       rules_fault = λ is. absurd (cc);
       shader_fault = λ is. absurd (cc);
@@ -98,6 +99,7 @@ module _ (given_words : List (List ℕ)) (said : Given) (reads : run_words given
       rules_text = rules_fit WriteFault refl;
       shader_text = shader_fits WriteFault refl;
       asks = λ _ _ _ _ free. absurd (true≢false free);
+      rules_syntax = λ fault is. absurd (cc);
       syntax = λ fault is. absurd (cc);
       rules_fault = λ is. absurd (cc);
       shader_fault = λ is. absurd (cc);

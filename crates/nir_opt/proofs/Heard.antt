@@ -1,9 +1,8 @@
 -- Texts that a sink takes one after another, of which none is written behind a fault: together they are one.
-use Rattle.std.specs.Prelude.{◌≡◌, refl, ◌+◌, ◌≤◌, ◌<◌, ℕ, Bool, true, false, List, [], ◌++◌, length, Option, Some}
+use Rattle.std.specs.Prelude.{refl, ℕ, Bool, true, false, List, [], ◌++◌, Option, Some}
 use Rattle.std.proofs.Common.{◌∙◌, ap, subst, sym, inl, inr, arith, append_assoc, length-append}
 use Rattle.std.proofs.lemmas.List.{append-nil}
 use Rattle.nir_host.specs.Faults.{Rose}
-use Rattle.nir_host.specs.Told.{Gains}
 use Rattle.nir_host.specs.Whole.{TakesFront}
 use Rattle.nir_mean.specs.ShaderLines.{TakesLine}
 use Rattle.nir_opt.specs.Heard.{IsHeard, Hears}

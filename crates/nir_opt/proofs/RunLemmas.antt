@@ -10,6 +10,7 @@ use Rattle.rule_term.specs.declared.when.Options.{Options}
 use Rattle.rule_term.specs.Descending.{is_descending}
 use Rattle.rule_term.specs.Table.{Table, op_weight}
 use Rattle.rule_read.specs.RuleFile.{RuleFile}
+use Rattle.rule_read.specs.Says.{file_says}
 use Rattle.nir_mean.specs.Same.{Same, Same-trans}
 use Rattle.nir_print.specs.Renumber.{renumber}
 use Rattle.nir_print.specs.RoundTrip.{IsTextOf, printed_names}
@@ -66,7 +67,7 @@ never_stopped settled rewrites limit before behind either lighter less = elim ei
 ]
 
 pub printed_is : (given : Given) (options : Options) (rules shader : List ℕ) (table : Table) (file : RuleFile) (read last : Shader) (journal : List Step) (rewrites limit : ℕ) (stopped : Bool) (text whole : List ℕ)
-    → options.names ≡ given.names → rules_answer given.skip rules ≡ Ok file → IsTableOf file table → shader_answer shader ≡ Ok read
+    → options.names ≡ given.names → rules_answer given.skip rules ≡ Ok (file_says file) → IsTableOf file table → shader_answer shader ≡ Ok read
     → IsDone options given.limit table read last journal rewrites limit stopped
     → text ≡ text_of last → IsTextOf text (printed_names last.body) (renumber last) → whole ≡ text ++ (if given.remarks then journal_text journal else [])
     → RenumberedIsShaped → RenumberedIsValid → RenumberedIsSame

@@ -1,12 +1,14 @@
 -- A run that stopped before its work: what its status says, stage by stage, and that its promises are kept.
-use Rattle.std.specs.Prelude.{◌≡◌, refl, ◌↔◌, ◌≢◌, ◌⊎◌, ◌≤◌, ◌<◌, ℕ, Bool, true, false, List, [], ◌++◌, Option, Some, None, Result, Ok, Err, IsOk, nat_le, nat_lt}
+use Rattle.std.specs.Prelude.{◌≡◌, refl, ◌↔◌, ◌≢◌, ℕ, true, false, List, [], ◌++◌, Some, None, Ok, Err, IsOk, nat_le, nat_lt}
 use Rattle.std.proofs.Common.{◌∙◌, ap, inl, inr, subst, sym}
 use Rattle.std.proofs.lemmas.Bool.{true≢false}
 use Rattle.std.proofs.lemmas.List.{append-nil}
 use Rattle.std.proofs.lemmas.Option.{none-some, same_Some}
 use Rattle.nir_host.specs.declared.fault.Which.TheVariants.{Rules, Shader}
 use Rattle.nir_text.specs.declared.fault.TextFault.{TextFault}
-use Rattle.rule_read.specs.RuleFile.{RuleFile}
+use Rattle.rule_spelling.specs.Files.{File}
+use Rattle.rule_read.specs.Says.{file_says}
+use Rattle.term_read.specs.declared.fault.RuleFault.{RuleFault}
 use Rattle.rule_check.specs.Accepted.{refusals}
 use Rattle.rule_check.specs.declared.refused.Refused.{Refused}
 use Rattle.run_words.specs.RunWords.{Given, run_words}
@@ -14,12 +16,12 @@ use Rattle.nir_mean.specs.Faults.{is_of_text}
 use Rattle.nir_mean.specs.ShaderLines.{TakesLine}
 use Rattle.nir_opt.specs.declared.status.Report.{Report}
 use Rattle.nir_opt.specs.declared.status.Status.{Status}
-use Rattle.nir_opt.specs.declared.status.Status.TheVariants.{Usage, ReadFault, WriteFault, RuleRefused, ShaderSyntax, ShaderInvalid, OutOfMemory, NotBuilt}
+use Rattle.nir_opt.specs.declared.status.Status.TheVariants.{Usage, ReadFault, WriteFault, RulesSyntax, RuleRefused, ShaderSyntax, ShaderInvalid, OutOfMemory}
 use Rattle.nir_opt.specs.declared.status.Status.TheVariants as status
-use Rattle.nir_opt.specs.Answers.{IsToldAs, line_with, skipped_text, usage_line}
+use Rattle.nir_opt.specs.Answers.{is_of_rule_text, IsToldAs, line_with, skipped_text, usage_line}
 use Rattle.nir_opt.specs.Asked.{asked, asked_of, behind, Fits, IsAsked, is_free, rules_answer, shader_answer, stage_of}
 use Rattle.nir_opt.specs.Printed.{idle}
-use Rattle.nir_opt.specs.Ran.{AreSkipped, IsFrontOf, Ran, ReadFaults, Reading, WriteFaults, Writing}
+use Rattle.nir_opt.specs.Ran.{AreSkipped, IsFrontOf, Ran, ReadFaults, Reading, Writing}
 use Rattle.rule_check.specs.declared.refused.Checked.{Checked}
 use Rattle.nir_opt.specs.Texts.{EndsRules, EndsShader, IsCheckedOf}
 
@@ -39,13 +41,13 @@ at_rules Usage fault ends = absurd ends
 at_rules (ReadFault Rules) fault ends = record { early = refl; asked_for = λ free. absurd (true≢false free); not_later = refl; not_shader = λ is. absurd (cc); not_behind = refl }
 at_rules (ReadFault Shader) fault ends = absurd ends
 at_rules WriteFault fault ends = absurd ends
+at_rules (RulesSyntax of_text) fault ends = record { early = refl; asked_for = λ _. refl; not_later = refl; not_shader = λ is. absurd (cc); not_behind = refl }
 at_rules (RuleRefused refused) fault ends = record { early = refl; asked_for = λ _. refl; not_later = refl; not_shader = λ is. absurd (cc); not_behind = refl }
 at_rules (ShaderSyntax of_text) fault ends = absurd ends
 at_rules (ShaderInvalid rule item) fault ends = absurd ends
 at_rules (status.TooLong Rules) fault ends = record { early = refl; asked_for = λ _. refl; not_later = refl; not_shader = λ is. absurd (cc); not_behind = refl }
 at_rules (status.TooLong Shader) fault ends = absurd ends
 at_rules OutOfMemory fault ends = record { early = refl; asked_for = λ free. absurd (true≢false free); not_later = refl; not_shader = λ is. absurd (cc); not_behind = refl }
-at_rules NotBuilt fault ends = record { early = refl; asked_for = λ _. refl; not_later = refl; not_shader = λ is. absurd (cc); not_behind = refl }
 
 -- a status with which reading the shader may end
 record AtShader (ending : Status) : Type 0 where
@@ -60,13 +62,13 @@ at_shader Usage fault ends = absurd ends
 at_shader (ReadFault Rules) fault ends = absurd ends
 at_shader (ReadFault Shader) fault ends = record { asked_for = λ free. absurd (true≢false free); not_rules = λ is. absurd (cc); memory_if_early = λ is. absurd (true≢false (sym is)); not_behind = refl }
 at_shader WriteFault fault ends = absurd ends
+at_shader (RulesSyntax of_text) fault ends = absurd ends
 at_shader (RuleRefused refused) fault ends = absurd ends
 at_shader (ShaderSyntax of_text) fault ends = record { asked_for = λ _. refl; not_rules = λ is. absurd (cc); memory_if_early = λ is. absurd (true≢false (sym is)); not_behind = refl }
 at_shader (ShaderInvalid rule item) fault ends = record { asked_for = λ _. refl; not_rules = λ is. absurd (cc); memory_if_early = λ is. absurd (true≢false (sym is)); not_behind = refl }
 at_shader (status.TooLong Rules) fault ends = absurd ends
 at_shader (status.TooLong Shader) fault ends = record { asked_for = λ _. refl; not_rules = λ is. absurd (cc); memory_if_early = λ is. absurd (true≢false (sym is)); not_behind = refl }
 at_shader OutOfMemory fault ends = record { asked_for = λ free. absurd (true≢false free); not_rules = λ is. absurd (cc); memory_if_early = λ _. refl; not_behind = refl }
-at_shader NotBuilt fault ends = absurd ends
 
 -- ---- a run that stopped with this status before it wrote, and told that these rules are left out
 
@@ -75,6 +77,7 @@ pub record Stops (given_words : List (List ℕ)) (rules shader : Reading) (endin
   rules_text : (given : Given) → run_words given_words ≡ Some given → (text : List ℕ) → rules.left_before ≡ Some text → Fits 1 ending (rules_answer given.skip text)
   shader_text : (text : List ℕ) → shader.left_before ≡ Some text → Fits 2 ending (shader_answer text)
   asks : (rule_text shader_text : List ℕ) → rules.left_before ≡ Some rule_text → shader.left_before ≡ Some shader_text → IsAsked (asked given_words rule_text shader_text) ending
+  rules_syntax : (fault : RuleFault) → ending ≡ RulesSyntax fault → is_of_rule_text fault ≡ true
   syntax : (fault : TextFault) → ending ≡ ShaderSyntax fault → is_of_text fault ≡ true
   rules_fault : ending ≡ ReadFault Rules → ReadFaults rules
   shader_fault : ending ≡ ReadFault Shader → ReadFaults shader
@@ -91,6 +94,7 @@ usage_stops given_words rules shader none rules_kept shader_kept = record {
   rules_text = λ given is. absurd (none-some given (sym none ∙ is));
   shader_text = λ text told. record { here = λ is. absurd (cc); later = λ is. absurd (true≢false (sym is)) };
   asks = λ rule_text shader_text _ _ _. sym (ap (λ o. asked_of o rule_text shader_text) none);
+  rules_syntax = λ fault is. absurd (cc);
   syntax = λ fault is. absurd (cc);
   rules_fault = λ is. absurd (cc);
   shader_fault = λ is. absurd (cc);
@@ -120,7 +124,7 @@ module _ (given_words : List (List ℕ)) (said : Given) (reads : run_words given
 
   -- what was told is known by the text of the rules, or a front of it where there was no memory
   pub record Tells (rules : Reading) (skipped : List Refused) : Type 0 where
-    pub front : (text : List ℕ) → rules.left_before ≡ Some text → (file : RuleFile) → rules_answer said.skip text ≡ Ok file → IsFrontOf skipped (refusals file.entries)
+    pub front : (text : List ℕ) → rules.left_before ≡ Some text → (file : File) → rules_answer said.skip text ≡ Ok file → IsFrontOf skipped (refusals file.entries)
     pub off : said.skip ≡ false → skipped ≡ []
 
   pub tells_nothing : (rules : Reading) → Tells rules []
@@ -132,6 +136,7 @@ module _ (given_words : List (List ℕ)) (said : Given) (reads : run_words given
     rules_text = λ given _ text _. record { here = λ is. absurd (cc); later = λ is. absurd (true≢false (sym is)) };
     shader_text = λ text _. record { here = λ is. absurd (cc); later = λ is. absurd (true≢false (sym is)) };
     asks = λ _ _ _ _ free. absurd (true≢false free);
+    rules_syntax = λ fault is. absurd (cc);
     syntax = λ fault is. absurd (cc);
     rules_fault = λ is. absurd (cc);
     shader_fault = λ is. absurd (cc);
@@ -142,7 +147,7 @@ module _ (given_words : List (List ℕ)) (said : Given) (reads : run_words given
     are = record {
       early = λ _ not_memory. absurd (not_memory refl);
       behind = λ given _ text _ file _ later. absurd (true≢false (sym later));
-      no_memory = λ _. for_said (λ given. (text : List ℕ) → rules.left_before ≡ Some text → (file : RuleFile) → rules_answer given.skip text ≡ Ok file → IsFrontOf skipped (refusals file.entries)) tells.front;
+      no_memory = λ _. for_said (λ given. (text : List ℕ) → rules.left_before ≡ Some text → (file : File) → rules_answer given.skip text ≡ Ok file → IsFrontOf skipped (refusals file.entries)) tells.front;
       off = for_said (λ given. given.skip ≡ false → skipped ≡ []) tells.off;
     };
   }
@@ -152,7 +157,7 @@ module _ (given_words : List (List ℕ)) (said : Given) (reads : run_words given
   asked_at_rules rule_text shader_text ending is =
       sym (ap (λ o. asked_of o rule_text shader_text) reads ∙ ap (λ a. behind a (behind (shader_answer shader_text) status.Ok)) is)
 
-  pub asked_at_shader : (rule_text shader_text : List ℕ) (file : RuleFile) (ending : Status) → rules_answer said.skip rule_text ≡ Ok file → shader_answer shader_text ≡ Err ending
+  pub asked_at_shader : (rule_text shader_text : List ℕ) (file : File) (ending : Status) → rules_answer said.skip rule_text ≡ Ok file → shader_answer shader_text ≡ Err ending
       → ending ≡ asked given_words rule_text shader_text
   asked_at_shader rule_text shader_text file ending rules_are is =
       sym (ap (λ o. asked_of o rule_text shader_text) reads ∙ ap (λ a. behind a (behind (shader_answer shader_text) status.Ok)) rules_are ∙ ap (λ a. behind a status.Ok) is)
@@ -168,6 +173,7 @@ module _ (given_words : List (List ℕ)) (said : Given) (reads : run_words given
         rules_text = for_said (λ given. (text : List ℕ) → rules.left_before ≡ Some text → Fits 1 ending (rules_answer given.skip text)) fits;
         shader_text = λ text _. record { here = λ is _. absurd (at.not_shader is); later = λ is. absurd (true≢false (sym is ∙ at.not_behind)) };
         asks = λ rule_text shader_text told _ free. asked_at_rules rule_text shader_text ending ((fits rule_text told).here (at.asked_for free) free);
+        rules_syntax = λ fault is. is_other (RulesSyntax fault) is;
         syntax = λ fault is. absurd (is_other (ShaderSyntax fault) is);
         rules_fault = is_other (ReadFault Rules);
         shader_fault = λ is. absurd (is_other (ReadFault Shader) is);
@@ -185,15 +191,15 @@ module _ (given_words : List (List ℕ)) (said : Given) (reads : run_words given
 
   -- the rules were read, and those that are left out were told
   pub record Told (rules : Reading) (skipped : List Refused) : Type 0 where
-    pub all : (text : List ℕ) → rules.left_before ≡ Some text → (file : RuleFile) × (rules_answer said.skip text ≡ Ok file) × (skipped ≡ refusals file.entries)
+    pub all : (text : List ℕ) → rules.left_before ≡ Some text → (file : File) × (rules_answer said.skip text ≡ Ok file) × (skipped ≡ refusals file.entries)
     pub none : said.skip ≡ false → skipped ≡ []
 
   -- what checking the rules tells of them
   pub told_of : (rules : Reading) (checked : Checked) → ((text : List ℕ) → rules.left_before ≡ Some text → IsCheckedOf (rules_answer said.skip text) checked)
       → (said.skip ≡ false → checked.refused ≡ []) → Told rules checked.refused
-  told_of rules checked known off = record { all = λ text is. let k = known text is in (k.file, k.is, k.refused); none = off }
+  told_of rules checked known off = record { all = λ text is. let k = known text is in (file_says k.file, k.is, k.refused); none = off }
 
-  pub told_whole : (rules : Reading) (skipped : List Refused) → Told rules skipped → (text : List ℕ) → rules.left_before ≡ Some text → (file : RuleFile)
+  pub told_whole : (rules : Reading) (skipped : List Refused) → Told rules skipped → (text : List ℕ) → rules.left_before ≡ Some text → (file : File)
       → rules_answer said.skip text ≡ Ok file → skipped ≡ refusals file.entries
   told_whole rules skipped told text is file answer =
       let own = told.all text is in
@@ -220,6 +226,7 @@ module _ (given_words : List (List ℕ)) (said : Given) (reads : run_words given
         asks = λ rule_text shader_text rules_told shader_told free.
             let own = told.all rule_text rules_told in
             asked_at_shader rule_text shader_text own.0 ending own.1 ((fits shader_text shader_told).here (at.asked_for free) free);
+        rules_syntax = λ fault is. absurd (is_other (RulesSyntax fault) is);
         syntax = λ fault is. is_other (ShaderSyntax fault) is;
         rules_fault = λ is. absurd (is_other (ReadFault Rules) is);
         shader_fault = is_other (ReadFault Shader);
@@ -229,9 +236,9 @@ module _ (given_words : List (List ℕ)) (said : Given) (reads : run_words given
         not_fault = is_other WriteFault;
         are = record {
           early = λ early not_memory. absurd (not_memory (at.memory_if_early early));
-          behind = for_said (λ given. (text : List ℕ) → rules.left_before ≡ Some text → (file : RuleFile) → rules_answer given.skip text ≡ Ok file → nat_lt 1 (stage_of ending) ≡ true → skipped ≡ refusals file.entries)
+          behind = for_said (λ given. (text : List ℕ) → rules.left_before ≡ Some text → (file : File) → rules_answer given.skip text ≡ Ok file → nat_lt 1 (stage_of ending) ≡ true → skipped ≡ refusals file.entries)
               (λ text is file answer _. told_whole rules skipped told text is file answer);
-          no_memory = λ _. for_said (λ given. (text : List ℕ) → rules.left_before ≡ Some text → (file : RuleFile) → rules_answer given.skip text ≡ Ok file → IsFrontOf skipped (refusals file.entries)) tells.front;
+          no_memory = λ _. for_said (λ given. (text : List ℕ) → rules.left_before ≡ Some text → (file : File) → rules_answer given.skip text ≡ Ok file → IsFrontOf skipped (refusals file.entries)) tells.front;
           off = for_said (λ given. given.skip ≡ false → skipped ≡ []) tells.off;
         };
       }
@@ -249,6 +256,7 @@ idle_ran given_words rules shader out lines ending skipped stops kept told = rec
   rules_text = stops.rules_text;
   shader_text = stops.shader_text;
   asks = stops.asks;
+  rules_syntax = stops.rules_syntax;
   syntax = stops.syntax;
   rules_fault = stops.rules_fault;
   shader_fault = stops.shader_fault;

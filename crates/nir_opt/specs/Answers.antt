@@ -1,18 +1,20 @@
 -- What each status is: its number, its place, the stage at which a run ends with it, and the line that it writes.
 use Rattle.std.specs.Prelude.{◌≡◌, ℕ, Bool, true, false, ◌++◌, List, [], ◌∷◌, codes, decimal, Option, Some, None, ◌⊎◌}
 use Rattle.std.specs.List.{flat_map}
-use Rattle.nir_host.specs.declared.fault.Which.TheVariants.{Rules, Shader}
+use Rattle.nir_lex.specs.declared.fault.LexFault.TheVariants.{BadByte, BadNumber}
+use Rattle.nir_lex.specs.declared.fault.LexFault.TheVariants as lex
 use Rattle.text_bytes.specs.Lists.{numbers_text}
 use Rattle.size_infer.specs.declared.fault.SizeFault.{SizeFault}
 use Rattle.size_infer.specs.declared.fault.SizeFault.TheVariants as size
+use Rattle.term_read.specs.declared.fault.RuleFault.{RuleFault}
+use Rattle.term_read.specs.declared.fault.RuleFault.TheVariants as rule
 use Rattle.rule_check.specs.declared.refused.Refused.{Refused}
 use Rattle.rule_check.specs.declared.refused.RuleCause.{RuleCause}
-use Rattle.rule_check.specs.declared.refused.RuleCause.TheVariants.{Size, NoEvidence, Cases, TooManyCases}
-use Rattle.rule_check.specs.declared.refused.RuleCause.TheVariants as cause
+use Rattle.rule_check.specs.declared.refused.RuleCause.TheVariants.{Size, NoEvidence, Cases, TooManyCases, NotBuilt}
 use Rattle.nir_mean.specs.Faults.{fault_place}
 use Rattle.nir_mean.specs.ShaderLines.{invalid_line, syntax_line, which_text}
 use Rattle.nir_opt.specs.declared.status.Status.{Status}
-use Rattle.nir_opt.specs.declared.status.Status.TheVariants.{Usage, ReadFault, WriteFault, RuleRefused, ShaderSyntax, ShaderInvalid, OutOfMemory, NotBuilt}
+use Rattle.nir_opt.specs.declared.status.Status.TheVariants.{Usage, ReadFault, WriteFault, RulesSyntax, RuleRefused, ShaderSyntax, ShaderInvalid, OutOfMemory}
 use Rattle.nir_opt.specs.declared.status.Status.TheVariants as status
 
 abbrev pub number_of : Status → ℕ
@@ -20,12 +22,59 @@ number_of status.Ok = 0
 number_of Usage = 2
 number_of (ReadFault which) = 3
 number_of WriteFault = 4
+number_of (RulesSyntax fault) = 5
 number_of (RuleRefused refused) = 6
 number_of (ShaderSyntax fault) = 7
 number_of (ShaderInvalid rule item) = 8
 number_of (status.TooLong which) = 9
 number_of OutOfMemory = 10
-number_of NotBuilt = 12
+
+-- ---- faults of a rule text
+
+-- a fault that the text has, and not a want of memory in reading it
+abbrev pub is_of_rule_text : RuleFault → Bool
+is_of_rule_text (rule.Lex (BadByte place)) = true
+is_of_rule_text (rule.Lex (BadNumber place)) = true
+is_of_rule_text (rule.Lex lex.OutOfMemory) = false
+is_of_rule_text (rule.Expected place) = true
+is_of_rule_text (rule.UnknownOp place) = true
+is_of_rule_text (rule.Arity place) = true
+is_of_rule_text (rule.Unbound place) = true
+is_of_rule_text (rule.TooLarge place) = true
+is_of_rule_text (rule.BadOption place) = true
+is_of_rule_text (rule.Excluded place) = true
+is_of_rule_text (rule.Weight place) = true
+is_of_rule_text rule.OutOfMemory = false
+
+-- its place in the text, where it is of the text
+abbrev pub rule_fault_place : RuleFault → ℕ
+rule_fault_place (rule.Lex (BadByte place)) = place
+rule_fault_place (rule.Lex (BadNumber place)) = place
+rule_fault_place (rule.Lex lex.OutOfMemory) = 0
+rule_fault_place (rule.Expected place) = place
+rule_fault_place (rule.UnknownOp place) = place
+rule_fault_place (rule.Arity place) = place
+rule_fault_place (rule.Unbound place) = place
+rule_fault_place (rule.TooLarge place) = place
+rule_fault_place (rule.BadOption place) = place
+rule_fault_place (rule.Excluded place) = place
+rule_fault_place (rule.Weight place) = place
+rule_fault_place rule.OutOfMemory = 0
+
+-- what it is called, where it is of the text
+abbrev pub rule_fault_what : RuleFault → List ℕ
+rule_fault_what (rule.Lex (BadByte place)) = codes "bad byte"
+rule_fault_what (rule.Lex (BadNumber place)) = codes "bad number"
+rule_fault_what (rule.Lex lex.OutOfMemory) = []
+rule_fault_what (rule.Expected place) = codes "unexpected"
+rule_fault_what (rule.UnknownOp place) = codes "unknown opcode"
+rule_fault_what (rule.Arity place) = codes "wrong number of sources"
+rule_fault_what (rule.Unbound place) = codes "unbound variable"
+rule_fault_what (rule.TooLarge place) = codes "too large"
+rule_fault_what (rule.BadOption place) = codes "bad condition"
+rule_fault_what (rule.Excluded place) = codes "left out"
+rule_fault_what (rule.Weight place) = codes "bad weight"
+rule_fault_what rule.OutOfMemory = []
 
 -- the place of a syntax fault, else 0
 abbrev pub place_of : Status → ℕ
@@ -33,12 +82,12 @@ place_of status.Ok = 0
 place_of Usage = 0
 place_of (ReadFault which) = 0
 place_of WriteFault = 0
+place_of (RulesSyntax fault) = rule_fault_place fault
 place_of (RuleRefused refused) = 0
 place_of (ShaderSyntax fault) = fault_place fault
 place_of (ShaderInvalid rule item) = 0
 place_of (status.TooLong which) = 0
 place_of OutOfMemory = 0
-place_of NotBuilt = 0
 
 -- ---- lines
 
@@ -57,7 +106,7 @@ cause_text (Size fault) = size_text fault
 cause_text NoEvidence = codes "no evidence"
 cause_text (Cases values) = codes "cases differ" ++ at_values values
 cause_text TooManyCases = codes "too many cases"
-cause_text cause.NotBuilt = codes "not built"
+cause_text NotBuilt = codes "not built"
 
 abbrev pub typing_text : Option ℕ → List ℕ
 typing_text None = []
@@ -74,6 +123,9 @@ refusal_line front refused = front ++ refusal_text refused ++ codes "\n"
 abbrev pub skipped_text : List Refused → List ℕ
 skipped_text refused = flat_map (refusal_line (codes "skipped ")) refused
 
+abbrev pub rules_line : RuleFault → List ℕ
+rules_line fault = codes "rules: byte " ++ decimal (rule_fault_place fault) ++ codes ": " ++ rule_fault_what fault ++ codes "\n"
+
 abbrev pub usage_line : List ℕ
 usage_line = codes "usage: nir_opt RULES [--limit=N] [--option=NAME] [--remarks] [--skip]\n"
 
@@ -86,12 +138,12 @@ line_with usage status.Ok = []
 line_with usage Usage = usage
 line_with usage (ReadFault which) = codes "read failed: " ++ which_text which ++ codes "\n"
 line_with usage WriteFault = codes "write failed\n"
+line_with usage (RulesSyntax fault) = rules_line fault
 line_with usage (RuleRefused refused) = refusal_line (codes "rules: ") refused
 line_with usage (ShaderSyntax fault) = syntax_line fault
 line_with usage (ShaderInvalid rule item) = invalid_line rule item
 line_with usage (status.TooLong which) = codes "too long: " ++ which_text which ++ codes "\n"
 line_with usage OutOfMemory = codes "out of memory\n"
-line_with usage NotBuilt = codes "not built: rules\n"
 
 abbrev pub stopped_text : ℕ → List ℕ
 stopped_text rewrites = codes "stopped at " ++ decimal rewrites ++ codes " rewrites\n"
@@ -102,12 +154,12 @@ has_plain_line status.Ok = true
 has_plain_line Usage = true
 has_plain_line (ReadFault which) = true
 has_plain_line WriteFault = true
+has_plain_line (RulesSyntax fault) = false
 has_plain_line (RuleRefused refused) = false
 has_plain_line (ShaderSyntax fault) = false
 has_plain_line (ShaderInvalid rule item) = false
 has_plain_line (status.TooLong which) = true
 has_plain_line OutOfMemory = true
-has_plain_line NotBuilt = true
 
 -- the line of a status: built, or one of a few
 abbrev pub IsLine : List ℕ → Option (List ℕ) → Status → Type 0

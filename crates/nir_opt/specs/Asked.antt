@@ -1,33 +1,34 @@
 -- What the words and the texts of a call ask for: to stop with a status, or to go through.
-use Rattle.std.specs.Prelude.{◌≡◌, ◌≢◌, ℕ, Bool, true, false, List, [], ◌∷◌, length, IsOk, Option, Some, None, Result, Ok, Err, nat_lt, if◌then◌else◌}
+use Rattle.std.specs.Prelude.{◌≡◌, ℕ, Bool, true, false, List, [], ◌∷◌, length, IsOk, Option, Some, None, Result, Ok, Err, nat_lt, if◌then◌else◌}
 use Rattle.nir_host.specs.declared.fault.Which.TheVariants.{Rules, Shader}
 use Rattle.nir_ir.specs.Shader as ir
-use Rattle.rule_read.specs.Rules.{read_file}
-use Rattle.rule_read.specs.RuleFile.{RuleFile}
+use Rattle.rule_spelling.specs.Files.{File}
+use Rattle.term_read.specs.declared.fault.RuleFault.{RuleFault}
+use Rattle.rule_read.specs.FileText.{rules_of_text}
 use Rattle.rule_check.specs.Accepted.{refusals}
 use Rattle.rule_check.specs.declared.refused.Refused.{Refused}
 use Rattle.run_words.specs.RunWords.{Given, is_rules_alone, run_words}
 use Rattle.nir_mean.specs.ShaderText.{Answer, Faulty, Invalid, Sound, answer_of}
 use Rattle.nir_mean.specs.ShaderText as answer
 use Rattle.nir_opt.specs.declared.status.Status.{Status}
-use Rattle.nir_opt.specs.declared.status.Status.TheVariants.{Usage, ReadFault, WriteFault, RuleRefused, ShaderSyntax, ShaderInvalid, OutOfMemory, NotBuilt}
+use Rattle.nir_opt.specs.declared.status.Status.TheVariants.{Usage, ReadFault, WriteFault, RulesSyntax, RuleRefused, ShaderSyntax, ShaderInvalid, OutOfMemory}
 use Rattle.nir_opt.specs.declared.status.Status.TheVariants as status
 
 -- ---- texts
 
--- a file whose rules are accepted, or of which those that are not are left out
-abbrev pub judged : Bool → RuleFile → List Refused → Result RuleFile Status
+-- what a file says whose rules are accepted, or of which those that are not are left out
+abbrev pub judged : Bool → File → List Refused → Result File Status
 judged skip file [] = Ok file
 judged true file (refused ∷ others) = Ok file
 judged false file (refused ∷ others) = Err (RuleRefused refused)
 
-abbrev pub file_answer : Bool → Option RuleFile → Result RuleFile Status
-file_answer skip None = Err NotBuilt
-file_answer skip (Some file) = judged skip file (refusals file.entries)
+abbrev pub file_answer : Bool → Result File RuleFault → Result File Status
+file_answer skip (Ok file) = judged skip file (refusals file.entries)
+file_answer skip (Err fault) = Err (RulesSyntax fault)
 
--- the rule file of a rule text, or the status for every other text
-unfoldable pub rules_answer : Bool → List ℕ → Result RuleFile Status
-rules_answer skip text = if nat_lt 67108864 (length text) then Err (status.TooLong Rules) else file_answer skip (read_file text)
+-- what a rule text says as a rule file, or the status for every other text
+unfoldable pub rules_answer : Bool → List ℕ → Result File Status
+rules_answer skip text = if nat_lt 67108864 (length text) then Err (status.TooLong Rules) else file_answer skip (rules_of_text text)
 
 abbrev pub answer_on : Answer → Result ir.Shader Status
 answer_on answer.TooLong = Err (status.TooLong Shader)
@@ -58,7 +59,7 @@ abbrev pub verdict : List Refused → Status
 verdict [] = status.Ok
 verdict (refused ∷ others) = RuleRefused refused
 
-abbrev pub verdict_on : Result RuleFile Status → Status
+abbrev pub verdict_on : Result File Status → Status
 verdict_on (Ok file) = verdict (refusals file.entries)
 verdict_on (Err ending) = ending
 
@@ -75,13 +76,13 @@ stage_of Usage = 0
 stage_of (ReadFault Rules) = 1
 stage_of (ReadFault Shader) = 2
 stage_of WriteFault = 3
+stage_of (RulesSyntax fault) = 1
 stage_of (RuleRefused refused) = 1
 stage_of (ShaderSyntax fault) = 2
 stage_of (ShaderInvalid rule item) = 2
 stage_of (status.TooLong Rules) = 1
 stage_of (status.TooLong Shader) = 2
 stage_of OutOfMemory = 0
-stage_of NotBuilt = 1
 
 -- want of memory, or a fault of a stream: such a status is not asked for
 abbrev pub is_free : Status → Bool
@@ -89,12 +90,12 @@ is_free status.Ok = false
 is_free Usage = false
 is_free (ReadFault which) = true
 is_free WriteFault = true
+is_free (RulesSyntax fault) = false
 is_free (RuleRefused refused) = false
 is_free (ShaderSyntax fault) = false
 is_free (ShaderInvalid rule item) = false
 is_free (status.TooLong which) = false
 is_free OutOfMemory = true
-is_free NotBuilt = false
 
 -- A status and what the text of a stage answers: a run that ends at this stage does so as the text asks, and one that ends at a later stage comes there
 -- because the text has its answer.

@@ -11,6 +11,7 @@ use Rattle.rule_term.specs.declared.when.Options.{Options}
 use Rattle.rule_term.specs.Descending.{is_descending}
 use Rattle.rule_term.specs.Table.{Table, op_weight}
 use Rattle.rule_read.specs.RuleFile.{RuleFile}
+use Rattle.rule_read.specs.Says.{file_says}
 use Rattle.nir_mean.specs.Same.{Same}
 use Rattle.nir_print.specs.Renumber.{renumber}
 use Rattle.nir_print.specs.RoundTrip.{IsTextOf, printed_names}
@@ -24,7 +25,7 @@ use Rattle.nir_opt.specs.declared.status.Status.{Status}
 use Rattle.nir_opt.specs.declared.status.Status.TheVariants.{WriteFault}
 use Rattle.nir_opt.specs.declared.status.Status.TheVariants as status
 use Rattle.nir_opt.specs.declared.printed.Printed.{Printed}
-use Rattle.nir_opt.specs.Answers.{place_of, stopped_text}
+use Rattle.nir_opt.specs.Answers.{place_of}
 use Rattle.nir_opt.specs.Asked.{rules_answer, shader_answer}
 use Rattle.nir_opt.specs.Texts.{IsTableOf}
 
@@ -43,11 +44,11 @@ remarks_text given journal = if given.remarks then journal_text journal else []
 abbrev pub printed_text : Given → List Step → Shader → List ℕ
 printed_text given journal last = text_of last ++ remarks_text given journal
 
--- The last shader of a run over these two texts, with this journal, so many rewrites, this limit on them, and whether the limit stopped it.
+-- The last shader of a run over these two texts, of which the first says what the file says, with this journal, so many rewrites, this limit on them, and whether the limit stopped it.
 pub record IsPrinted (given : Given) (rules shader : List ℕ) (journal : List Step) (rewrites limit : ℕ) (stopped : Bool) (last : Shader) : Type 0 where
   pub file : RuleFile
   pub read : Shader
-  pub rules_read : rules_answer given.skip rules ≡ Ok file
+  pub rules_read : rules_answer given.skip rules ≡ Ok (file_says file)
   pub shader_read : shader_answer shader ≡ Ok read
   -- the rules that are used: those of the file that are accepted, with its weights
   pub table : Table

@@ -1,5 +1,5 @@
 -- What a call of `run` promises of its words, its two sources and its two sinks, as one fact.
-use Rattle.std.specs.Prelude.{◌≡◌, ◌↔◌, ◌≢◌, ℕ, Bool, true, false, List, [], ◌++◌, Option, Some, None, Ok, IsOk, if◌then◌else◌, nat_le, nat_lt}
+use Rattle.std.specs.Prelude.{◌≡◌, ◌↔◌, ◌≢◌, ℕ, Bool, true, false, List, [], ◌++◌, Option, Some, None, Ok, if◌then◌else◌, nat_le, nat_lt}
 use Rattle.nir_host.specs.declared.fault.Which.TheVariants as which
 use Rattle.nir_host.specs.Faults.{Rose}
 use Rattle.nir_host.specs.Told.{Gains}
@@ -11,13 +11,14 @@ use Rattle.nir_mean.specs.ShaderLines.{TakesLine}
 use Rattle.nir_mean.specs.ShaderText.{ReadsToEnd}
 use Rattle.rule_check.specs.Accepted.{refusals}
 use Rattle.rule_check.specs.declared.refused.Refused.{Refused}
-use Rattle.rule_read.specs.RuleFile.{RuleFile}
+use Rattle.rule_spelling.specs.Files.{File}
+use Rattle.term_read.specs.declared.fault.RuleFault.{RuleFault}
 use Rattle.run_words.specs.RunWords.{Given, run_words}
 use Rattle.nir_opt.specs.declared.status.Report.{Report}
 use Rattle.nir_opt.specs.declared.status.Status.{Status}
 use Rattle.nir_opt.specs.declared.status.Status.TheVariants as status
-use Rattle.nir_opt.specs.Answers.{line_with, place_of, skipped_text, stopped_text, usage_line}
-use Rattle.nir_opt.specs.Asked.{asked, Fits, IsAsked, is_free, rules_answer, shader_answer, stage_of}
+use Rattle.nir_opt.specs.Answers.{is_of_rule_text, line_with, place_of, skipped_text, stopped_text, usage_line}
+use Rattle.nir_opt.specs.Asked.{asked, Fits, IsAsked, rules_answer, shader_answer, stage_of}
 use Rattle.nir_opt.specs.Printed.{IsPrinted, printed_text}
 
 -- a source before a call and after it: the bytes that it has left, where it tells them, and its count of faults
@@ -56,9 +57,9 @@ IsFrontOf front whole = (rest : List Refused) × (whole ≡ front ++ rest)
 pub record AreSkipped (given_words : List (List ℕ)) (rules : Reading) (ending : Status) (skipped : List Refused) : Type 0 where
   pub early : nat_le (stage_of ending) 1 ≡ true → ending ≢ status.OutOfMemory → skipped ≡ []
   pub behind : (given : Given) → run_words given_words ≡ Some given → (text : List ℕ) → rules.left_before ≡ Some text
-      → (file : RuleFile) → rules_answer given.skip text ≡ Ok file → nat_lt 1 (stage_of ending) ≡ true → skipped ≡ refusals file.entries
+      → (file : File) → rules_answer given.skip text ≡ Ok file → nat_lt 1 (stage_of ending) ≡ true → skipped ≡ refusals file.entries
   pub no_memory : ending ≡ status.OutOfMemory → (given : Given) → run_words given_words ≡ Some given → (text : List ℕ) → rules.left_before ≡ Some text
-      → (file : RuleFile) → rules_answer given.skip text ≡ Ok file → IsFrontOf skipped (refusals file.entries)
+      → (file : File) → rules_answer given.skip text ≡ Ok file → IsFrontOf skipped (refusals file.entries)
   pub off : (given : Given) → run_words given_words ≡ Some given → given.skip ≡ false → skipped ≡ []
 
 pub record Notes (given_words : List (List ℕ)) (rules : Reading) (lines : Writing) (report : Report) : Type 0 where
@@ -75,6 +76,7 @@ pub record Ran (given_words : List (List ℕ)) (rules shader : Reading) (out lin
   pub shader_text : (text : List ℕ) → shader.left_before ≡ Some text → Fits 2 report.status (shader_answer text)
   pub asks : (rule_text shader_text : List ℕ) → rules.left_before ≡ Some rule_text → shader.left_before ≡ Some shader_text
       → IsAsked (asked given_words rule_text shader_text) report.status
+  pub rules_syntax : (fault : RuleFault) → report.status ≡ status.RulesSyntax fault → is_of_rule_text fault ≡ true
   pub syntax : (fault : TextFault) → report.status ≡ status.ShaderSyntax fault → is_of_text fault ≡ true
   pub rules_fault : report.status ≡ status.ReadFault which.Rules → ReadFaults rules
   pub shader_fault : report.status ≡ status.ReadFault which.Shader → ReadFaults shader

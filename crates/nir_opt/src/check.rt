@@ -6,7 +6,7 @@ ghost use Rattle.nir_host.specs.Faults.{Rose};
 ghost use Rattle.nir_host.specs.Told.{Gains};
 ghost use Rattle.nir_host.specs.Whole.{TakesFront};
 ghost use Rattle.nir_mean.specs.ShaderLines.{TakesLine};
-ghost use Rattle.rule_check.specs.Accepted.{refusals};
+ghost use Rattle.rule_check.specs.Accepted.{entries_say, refusals};
 ghost use Rattle.nir_opt.specs.Answers.{check_usage_line, IsLine, line_with};
 ghost use Rattle.nir_opt.specs.Asked.{verdict};
 ghost use Rattle.nir_opt.specs.Checked.{check_text, RanCheck, verdict_line};
@@ -51,8 +51,8 @@ fn push_verdict(
 
 /// The lines of all rules, and the verdict on them.
 fn judge(alloc: Global, entries: &[Entry]) -> Result<Judged, OutOfMemory>
-    ensures text { IfOk result (λ judged. judged.text ≡ check_text entries.now) }
-    ensures verdict { IfOk result (λ judged. judged.told.status ≡ verdict (refusals entries.now)) }
+    ensures text { IfOk result (λ judged. judged.text ≡ check_text (entries_say entries.now)) }
+    ensures verdict { IfOk result (λ judged. judged.told.status ≡ verdict (refusals (entries_say entries.now))) }
     ensures line { IfOk result (λ judged. IsLine check_usage_line judged.told.built judged.told.status) }
 {
     let mut text = Vec::new(alloc);

@@ -3,6 +3,7 @@
 #![tactic(auto)]
 
 mod check;
+mod faults;
 mod lines;
 mod optimise;
 mod printed;

@@ -3,6 +3,7 @@
 ghost use Rattle.std.specs.Prelude.{◌≡◌, ◌++◌, ◌≤◌, ℕ, List, [], IfOk, Ok, if◌then◌else◌};
 ghost use Rattle.nir_search.specs.Weight.{weight_of};
 ghost use Rattle.rule_read.specs.RuleFile.{RuleFile as File};
+ghost use Rattle.rule_read.specs.Says.{file_says};
 ghost use Rattle.rule_term.specs.Table.{op_weight};
 ghost use Rattle.journal_text.specs.Journal.{journal_text};
 ghost use Rattle.nir_validate.specs.Valid.{Valid};
@@ -86,7 +87,7 @@ pub fn printed_last<L: Ledger>(
     requires said { IsFew words.now }
     requires few { shader.next_value ≤ 16384 }
     requires valid { Valid shader }
-    ensures prints { IfOk result (λ printed. (rule_text shader_text : List ℕ) (file : File) → rules_answer (given words.now).skip rule_text ≡ Ok file →
+    ensures prints { IfOk result (λ printed. (rule_text shader_text : List ℕ) (file : File) → rules_answer (given words.now).skip rule_text ≡ Ok (file_says file) →
         IsTableOf file table.now → shader_answer shader_text ≡ Ok shader → PrintsLast (given words.now) rule_text shader_text printed) }
     ensures line { IfOk result (λ printed. printed.line ≡ (if printed.stopped then stopped_text printed.rewrites else [])) }
 {

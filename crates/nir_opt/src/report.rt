@@ -104,12 +104,12 @@ fn end_line<'a>(status: &Status, printed: &'a Printed) -> &'a [u8]
         Status::Usage
         | Status::ReadFault(_)
         | Status::WriteFault
+        | Status::RulesSyntax(_)
         | Status::RuleRefused(_)
         | Status::ShaderSyntax(_)
         | Status::ShaderInvalid { .. }
         | Status::TooLong(_)
-        | Status::OutOfMemory
-        | Status::NotBuilt => plain_line(USAGE, status),
+        | Status::OutOfMemory => plain_line(USAGE, status),
     }
 }
 

@@ -6,10 +6,11 @@ ghost use Rattle.nir_host.specs.Told.{Gains};
 ghost use Rattle.nir_host.specs.Whole.{TakesFront};
 ghost use Rattle.nir_ir.specs.Shader.{Shader};
 ghost use Rattle.nir_text.specs.declared.fault.TextFault.{TextFault};
+ghost use Rattle.term_read.specs.declared.fault.RuleFault.{RuleFault};
 ghost use Rattle.nir_mean.specs.Faults.{is_of_text};
 ghost use Rattle.nir_mean.specs.ShaderText.{ReadsToEnd};
 ghost use Rattle.run_words.specs.RunWords.{Given, run_words};
-ghost use Rattle.nir_opt.specs.Answers.{place_of, skipped_text};
+ghost use Rattle.nir_opt.specs.Answers.{is_of_rule_text, place_of, skipped_text};
 ghost use Rattle.nir_opt.specs.Asked.{asked, Fits, IsAsked, rules_answer, shader_answer, stage_of};
 ghost use Rattle.nir_opt.specs.Heard.{Hears};
 ghost use Rattle.nir_opt.specs.Printed.{IsPrinted, printed_text};
@@ -24,6 +25,7 @@ use nir_host::{Bytes, OutOfMemory, Sink, Source, Which};
 use nir_search::Steps;
 use nir_text::TextFault;
 use rule_check::Refused;
+use rule_read::RuleFault;
 use run_words::run_words;
 use std::alloc::Global;
 use std::sync::ledger::Ledger;
@@ -52,6 +54,7 @@ pub fn run<R: Source, S: Source, K: Sink, N: Sink, L: Ledger>(
     ensures asks { (rule_text shader_text : List ℕ) → R.left rules.old ≡ Some rule_text → S.left shader.old ≡ Some shader_text →
         IsAsked (asked words.now rule_text shader_text) result.status }
 
+    ensures rules_syntax { (fault : RuleFault) → result.status ≡ Status.RulesSyntax fault → is_of_rule_text fault ≡ true }
     ensures syntax { (fault : TextFault) → result.status ≡ Status.ShaderSyntax fault → is_of_text fault ≡ true }
 
     // A fault has its cause.

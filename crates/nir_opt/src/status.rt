@@ -3,11 +3,13 @@
 ghost use Rattle.std.specs.Prelude.{◌≡◌};
 ghost use Rattle.nir_opt.specs.Answers.{number_of, place_of};
 
+use crate::faults::rule_fault_place;
 use nir_host::Which;
 use nir_ir::Journal;
 use nir_mean::fault_place;
 use nir_text::TextFault;
 use rule_check::Refused;
+use rule_read::RuleFault;
 
 /// How a run ended. The numbers, the causes and the lines are in `docs/COMMANDS.md`.
 #[derive(Debug, Drop)]
@@ -20,8 +22,8 @@ pub enum Status {
     ReadFault(Which),
     /// A fault of the output was counted; it took a front of the text.
     WriteFault,
-    /// The rule text has no reading.
-    NotBuilt,
+    /// The rule text is not in the grammar: its first fault, which is never want of memory.
+    RulesSyntax(RuleFault),
     /// The rule is not accepted; it is the first of its file that is not.
     RuleRefused(Refused),
     /// The shader text is not in the grammar: its first fault, which is never want of memory.
@@ -44,12 +46,12 @@ impl Status {
             Status::Usage => 2,
             Status::ReadFault(_) => 3,
             Status::WriteFault => 4,
+            Status::RulesSyntax(_) => 5,
             Status::RuleRefused(_) => 6,
             Status::ShaderSyntax(_) => 7,
             Status::ShaderInvalid { .. } => 8,
             Status::TooLong(_) => 9,
             Status::OutOfMemory => 10,
-            Status::NotBuilt => 12,
         }
     }
 
@@ -58,6 +60,7 @@ impl Status {
         ensures { result ≡ place_of self.now }
     {
         match self {
+            Status::RulesSyntax(fault) => rule_fault_place(fault),
             Status::ShaderSyntax(fault) => fault_place(fault),
             Status::Ok
             | Status::Usage
@@ -66,8 +69,7 @@ impl Status {
             | Status::RuleRefused(_)
             | Status::ShaderInvalid { .. }
             | Status::TooLong(_)
-            | Status::OutOfMemory
-            | Status::NotBuilt => 0,
+            | Status::OutOfMemory => 0,
         }
     }
 }

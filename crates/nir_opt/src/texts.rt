@@ -5,15 +5,17 @@ ghost use Rattle.nir_host.specs.Faults.{Rose};
 ghost use Rattle.nir_mean.specs.ShaderText.{ReadsToEnd};
 ghost use Rattle.nir_validate.specs.Valid.{Valid};
 ghost use Rattle.nir_opt.specs.Asked.{judged, rules_answer, shader_answer};
-ghost use Rattle.rule_check.specs.Accepted.{refusals};
-ghost use Rattle.nir_opt.specs.Texts.{CheckedFits, EndsReading, EndsRules, EndsShader, FileFits, ReadFits};
+ghost use Rattle.rule_check.specs.Accepted.{entries_say, refusals};
+ghost use Rattle.rule_read.specs.Says.{file_says};
+ghost use Rattle.nir_opt.specs.Texts.{CheckedFits, EndsReading, EndsRules, EndsShader, FileFits, ReadFits, ends_by};
 
+use crate::faults::is_of_rule_text;
 use crate::status::Status;
 use nir_host::{ReadAllFault, Source, Which, read_all};
 use nir_ir::Shader;
 use nir_mean::{ShaderRefusal, read_shader_bytes, valid_shader};
 use rule_check::{CheckFault, Checked, RefusedList, check_file, check_file_skipping};
-use rule_read::{RuleFile, read_rules};
+use rule_read::{RuleFault, RuleFile, read_rules};
 use std::alloc::Global;
 
 /// How many bytes of rules are read.
@@ -34,22 +36,32 @@ pub fn read_file<R: Source>(alloc: Global, rules: &mut R) -> Result<RuleFile, St
 }
 
 /// The rule file of a text that was read to its end.
-#[tactic(auto, using(crate::proofs::TextAnswers::file_found, crate::proofs::TextAnswers::file_missing))]
+#[tactic(auto, using(crate::proofs::TextAnswers::file_found, crate::proofs::TextAnswers::file_faulty, crate::proofs::TextAnswers::ends_reading))]
 fn file_of_text(alloc: Global, text: &[u8]) -> Result<RuleFile, Status>
     requires { length text.now ≤ 67108864 }
     ensures text { FileFits result (rules_answer true text.now) }
     ensures stop { IfErr result (λ status. EndsReading status ⊥) }
 {
     match read_rules(alloc, text) {
-        Ok(Some(file)) => Ok(file),
-        Ok(None) => Err(Status::NotBuilt),
-        Err(_no_memory) => Err(Status::OutOfMemory),
+        Ok(file) => Ok(file),
+        Err(fault) => Err(ends_by(fault)),
+    }
+}
+
+/// How reading a rule text with this fault ends.
+fn ends_by(fault: RuleFault) -> Status
+    ensures { result ≡ ends_by fault }
+{
+    if is_of_rule_text(&fault) {
+        Status::RulesSyntax(fault)
+    } else {
+        Status::OutOfMemory
     }
 }
 
 /// The table of the rules of a file that are accepted, and the others, which there may be where rules are skipped.
 pub fn check_rules(alloc: Global, file: RuleFile, skip: bool) -> Result<Checked, Status>
-    ensures fits { CheckedFits result (judged skip file (refusals file.entries)) }
+    ensures fits { CheckedFits result (judged skip (file_says file) (refusals (entries_say file.entries))) }
     ensures off { IfOk result (λ checked. skip ≡ false → checked.refused ≡ []) }
     ensures stop { IfErr result (λ status. EndsRules status ⊥) }
 {

@@ -12,7 +12,7 @@ const NONE: Case<'static> = Case {
 /// A file with a rule that is not accepted.
 const REFUSES: Case<'static> = Case { number: 6, ..NONE };
 
-static FILES: [Case; 8] = [
+static FILES: [Case; 9] = [
     NONE,
     Case {
         rules: Text::Whole(b"[(('iadd', 'a@8', 0), 'a'), by * cases]"),
@@ -48,6 +48,14 @@ static FILES: [Case; 8] = [
     Case {
         rules: Text::Whole(b"[(('iand', 'a@8', 'b@8'), ('iand', b, a)), by * cases]"),
         out: b"rule 0 accepted\n",
+        ..NONE
+    },
+    // each typing has a line of its own, or the one for all
+    Case {
+        rules: Text::Whole(
+            b"[(('iand', 'a@8', ('u2u8', 65536)), 0), by 1 cases, by 0 cases, (('iand', 'a@8', ('u2u8', 65536)), 0), by 1 cases, by * cases]",
+        ),
+        out: b"rule 0 accepted\nrule 1 accepted\n",
         ..NONE
     },
     // all lines, and the first that is not accepted
@@ -102,8 +110,8 @@ static ENDED: [Case; 6] = [
     },
     Case {
         rules: Text::Whole(b"[weight imul 61]"),
-        number: 12,
-        notes: b"not built: rules\n",
+        number: 5,
+        notes: b"rules: byte 13: bad weight\n",
         ..NONE
     },
 ];

@@ -3,7 +3,7 @@
 use super::rewriting::{DIFFER, REWRITTEN};
 use super::texts::EMPTY_BLOCK;
 use super::validity::BROKEN;
-use super::{Case, PRINTED, REFUSED, Text, all_end, all_end_unheard, uncounted};
+use super::{Case, PRINTED, REFUSED, Text, all_end, all_end_unheard, ends, uncounted};
 use nir_host::OutOfMemory;
 use std::alloc::Global;
 
@@ -74,59 +74,125 @@ fn words_without_a_reading_are_refused(rt: HostRuntime) {
     all_end(&rt, rt.alloc(), &USAGE);
 }
 
-/// Rule texts that have no reading.
+/// Rule texts that are not in the grammar.
 const UNREAD_RULES: Case<'static> = Case {
-    number: 12,
-    notes: b"not built: rules\n",
+    number: 5,
     ..REFUSED
 };
 
-static RULE_FAULTS: [Case; 10] = [
-    Case {
-        rules: Text::Whole(b"[]]"),
-        ..UNREAD_RULES
-    },
+static RULE_FAULTS: [Case; 15] = [
     Case {
         rules: Text::Whole(b"[ ? ]"),
+        place: 2,
+        notes: b"rules: byte 2: bad byte\n",
         ..UNREAD_RULES
     },
     Case {
-        rules: Text::Whole(b"[((iadd3, a, 0), a), by * cases]"),
+        rules: Text::Whole(b"[((iadd, 'a@8', 0x), a), by * cases]"),
+        place: 16,
+        notes: b"rules: byte 16: bad number\n",
         ..UNREAD_RULES
     },
     Case {
-        rules: Text::Whole(b"[((iadd, a), a), by * cases]"),
-        ..UNREAD_RULES
-    },
-    Case {
-        rules: Text::Whole(b"[((iadd, a, 0), b), by * cases]"),
-        ..UNREAD_RULES
-    },
-    Case {
-        rules: Text::Whole(b"[((mov, a), a), by * cases]"),
+        rules: Text::Whole(b"[]]"),
+        place: 2,
+        notes: b"rules: byte 2: unexpected\n",
         ..UNREAD_RULES
     },
     Case {
         rules: Text::Whole(b"[by * cases]"),
+        place: 1,
+        notes: b"rules: byte 1: unexpected\n",
         ..UNREAD_RULES
     },
     Case {
-        rules: Text::Whole(b"[weight imul 6]"),
+        rules: Text::Whole(b"[((iadd, 'a@8', 0), a), by 4294967296 cases]"),
+        place: 27,
+        notes: b"rules: byte 27: unexpected\n",
         ..UNREAD_RULES
     },
     Case {
-        rules: Text::Whole(b"[((iadd, 'a@8', 0), a, 'options->b'), by * cases]"),
+        rules: Text::Whole(b"[((iadd3, a, 0), a), by * cases]"),
+        place: 3,
+        notes: b"rules: byte 3: unknown opcode\n",
         ..UNREAD_RULES
     },
     Case {
-        rules: Text::Whole(b"[((iadd, 'a@8', 0), a), by 0 cases]"),
+        rules: Text::Whole(b"[((iadd, a), a), by * cases]"),
+        place: 10,
+        notes: b"rules: byte 10: wrong number of sources\n",
+        ..UNREAD_RULES
+    },
+    Case {
+        rules: Text::Whole(b"[((iadd, a, 0), b), by * cases]"),
+        place: 16,
+        notes: b"rules: byte 16: unbound variable\n",
+        ..UNREAD_RULES
+    },
+    Case {
+        rules: Text::Whole(b"[((iadd, 'a@8', 0), a, 'options.b'), by * cases]"),
+        place: 23,
+        notes: b"rules: byte 23: bad condition\n",
+        ..UNREAD_RULES
+    },
+    Case {
+        rules: Text::Whole(b"[((mov, a), a), by * cases]"),
+        place: 3,
+        notes: b"rules: byte 3: left out\n",
+        ..UNREAD_RULES
+    },
+    Case {
+        rules: Text::Whole(b"[(('iadd', 'a@int', 0), a), by * cases]"),
+        place: 11,
+        notes: b"rules: byte 11: left out\n",
+        ..UNREAD_RULES
+    },
+    Case {
+        rules: Text::Whole(b"[weight imul 61]"),
+        place: 13,
+        notes: b"rules: byte 13: bad weight\n",
+        ..UNREAD_RULES
+    },
+    Case {
+        rules: Text::Whole(b"[weight imul 6, weight imul 6]"),
+        place: 23,
+        notes: b"rules: byte 23: bad weight\n",
+        ..UNREAD_RULES
+    },
+    Case {
+        rules: Text::Whole(b"[weight mov 1]"),
+        place: 8,
+        notes: b"rules: byte 8: bad weight\n",
+        ..UNREAD_RULES
+    },
+    // the 17th opcode of a side
+    Case {
+        rules: Text::Repeated {
+            front: b"[(",
+            piece: b"(inot, ",
+            times: 17,
+            end: b"a",
+        },
+        place: 115,
+        notes: b"rules: byte 115: too large\n",
         ..UNREAD_RULES
     },
 ];
 
 #[test]
-fn rule_texts_without_a_reading_are_refused(rt: HostRuntime) {
+fn the_first_fault_of_a_rule_text_is_told(rt: HostRuntime) {
     all_end(&rt, rt.alloc(), &RULE_FAULTS);
+}
+
+#[test]
+fn a_check_tells_the_first_fault_of_a_rule_text(rt: HostRuntime) {
+    for case in &RULE_FAULTS {
+        let checked = Case {
+            words: &[b"check", b"r"],
+            ..*case
+        };
+        ends(&rt, rt.alloc(), &checked).expect(&rt, "memory");
+    }
 }
 
 /// Blanks behind two bytes of rules.

@@ -1,31 +1,53 @@
-//! Rules at their sizes under the words of `run`: limits, steps that are printed, and rules that are left out.
+//! Rule files under the words of `run`: options, limits, steps that are printed, and rules that are left out.
 
 use super::rewriting::{REWRITTEN, step};
-use super::texts::{ADD_ZERO, RULE};
+use super::texts::{ADD_ZERO, MOVED, RULE};
 use super::{Case, REFUSED, Text, all_end, uncounted};
 use crate::program::Ended;
 use nir_ir::{Step, ValueId};
+
+/// A rule under options.
+const OPTIONAL: Case<'static> = Case {
+    rules: Text::Whole(
+        b"[(('iadd', 'a@8', 0), 'a', '!options->keep_add && (options->a || options->b)'), by * cases]",
+    ),
+    ..REWRITTEN
+};
 
 /// Nothing is done.
 const KEPT: Case<'static> = Case {
     out: ADD_ZERO,
     journal: &[],
-    ..REWRITTEN
+    ..OPTIONAL
 };
 
-static OPTIONS: [Case; 2] = [
+static OPTIONS: [Case; 6] = [
+    KEPT,
     Case {
-        words: &[b"r", b"--option=keep_add"],
-        ..REWRITTEN
+        words: &[b"r", b"--option=a"],
+        ..OPTIONAL
     },
     Case {
-        words: &[b"r", b"--option=keep", b"--option=keep", b"--option=_1"],
+        words: &[b"r", b"--option=b", b"--option=b", b"--option=_1"],
+        ..OPTIONAL
+    },
+    Case {
+        words: &[b"r", b"--option=a", b"--option=keep_add"],
+        ..KEPT
+    },
+    Case {
+        words: &[b"r", b"--option=keep"],
+        ..KEPT
+    },
+    // a rule without options
+    Case {
+        words: &[b"r", b"--option=keep_add"],
         ..REWRITTEN
     },
 ];
 
 #[test]
-fn options_may_be_set(rt: HostRuntime) {
+fn a_rule_is_used_where_its_options_hold(rt: HostRuntime) {
     all_end(&rt, rt.alloc(), &OPTIONS);
 }
 
@@ -91,7 +113,7 @@ fn rules_that_are_not_accepted_are_left_out(rt: HostRuntime) {
     all_end(&rt, rt.alloc(), &SKIPPED);
 }
 
-static LIMITS: [Case; 3] = [
+static LIMITS: [Case; 5] = [
     Case {
         words: &[b"r", b"--limit=0"],
         rules: Text::Whole(RULE),
@@ -108,6 +130,19 @@ static LIMITS: [Case; 3] = [
     Case {
         words: &[b"r", b"--limit=1000000"],
         limit: 1_000_000,
+        ..REWRITTEN
+    },
+    // a weight in the file counts
+    Case {
+        rules: Text::Whole(b"[weight iadd 60, (('iadd', 'a@8', 0), 'a'), by * cases]"),
+        out: MOVED,
+        limit: 4156,
+        ..REWRITTEN
+    },
+    Case {
+        rules: Text::Whole(b"[(('iadd', 'a@8', 0), 'a'), by * cases, weight iadd 0]"),
+        out: MOVED,
+        limit: 4096,
         ..REWRITTEN
     },
 ];
@@ -176,7 +211,7 @@ const NOT_ACCEPTED: Case<'static> = Case {
     ..REFUSED
 };
 
-static CAUSES: [Case; 4] = [
+static CAUSES: [Case; 9] = [
     Case {
         rules: Text::Whole(b"[(('iadd', 'a@8', 0), ('iadd', a, ('u2u8', 0))), by * cases]"),
         notes: b"rules: rule 0: node 3 has no size\n",
@@ -197,6 +232,35 @@ static CAUSES: [Case; 4] = [
     Case {
         rules: Text::Whole(b"[(('udiv', a, 1), a)]"),
         notes: b"rules: rule 0 typing 0: no evidence\n",
+        ..NOT_ACCEPTED
+    },
+    // two typings, of which one has no evidence, or other sides
+    Case {
+        rules: Text::Whole(b"[(('iand', 'a@8', ('u2u8', 65536)), 0), by 1 cases]"),
+        notes: b"rules: rule 0 typing 0: no evidence\n",
+        ..NOT_ACCEPTED
+    },
+    Case {
+        rules: Text::Whole(b"[(('iand', 'a@8', ('u2u8', 65536)), 0), by 0 cases, by 2 cases]"),
+        notes: b"rules: rule 0 typing 1: no evidence\n",
+        ..NOT_ACCEPTED
+    },
+    Case {
+        rules: Text::Whole(
+            b"[(('iand', 'a@8', ('u2u8', ('bit_count', -65536))), ('iand', a, 16)), by * cases]",
+        ),
+        notes: b"rules: rule 0 typing 1: cases differ at 32\n",
+        ..NOT_ACCEPTED
+    },
+    // derivations and logs are read, and not checked yet
+    Case {
+        rules: Text::Whole(b"[(('udiv', a, 1), a), by * derive [(57, [])]]"),
+        notes: b"rules: rule 0 typing 0: not built\n",
+        ..NOT_ACCEPTED
+    },
+    Case {
+        rules: Text::Whole(b"[(('udiv', a, 1), a), by * log [([1, -2], [3])]]"),
+        notes: b"rules: rule 0 typing 0: not built\n",
         ..NOT_ACCEPTED
     },
 ];

@@ -1,4 +1,4 @@
-use Rattle.std.proofs.Common.{◌≡◌, ◌∙◌, ap, arith, subst, sym}
+use Rattle.std.proofs.Common.{ap, arith}
 use Rattle.rule_term.specs.Table.{op_weight}
 use Rattle.nir_search.specs.Weight.{weight_of}
 use Rattle.nir_opt.proofs.optimise.optimise.Goals as goal

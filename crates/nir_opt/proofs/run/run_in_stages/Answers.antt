@@ -1,4 +1,4 @@
-use Rattle.std.proofs.Common.{rules, ◌≡◌, ◌∙◌, refl, subst}
+use Rattle.std.proofs.Common.{refl, subst}
 use Rattle.run_words.specs.Views.{given}
 use Rattle.nir_opt.specs.Answers.{skipped_text}
 use Rattle.nir_opt.specs.Heard.{IsHeard}

@@ -1,4 +1,4 @@
-use Rattle.std.proofs.Common.{List, ℕ, Some, ap, ◌∙◌, refl, subst, arith, true}
+use Rattle.std.proofs.Common.{List, ℕ, Some, ap, ◌∙◌, refl, subst, true}
 use Rattle.rule_read.specs.RuleFile.{RuleFile}
 use Rattle.nir_mean.specs.ShaderText.{ReadsToEnd}
 use Rattle.nir_opt.specs.declared.status.Status.{Status}

@@ -1,5 +1,6 @@
 use Rattle.std.proofs.Common.{subst, sym}
 use Rattle.nir_host.specs.Faults.{Rose}
+use Rattle.rule_read.specs.Says.{file_says}
 use Rattle.nir_opt.specs.Texts.{CheckedFits}
 use Rattle.nir_opt.proofs.TextAnswers.{fits_however, reads_as_rules, rules-judged}
 use Rattle.nir_opt.proofs.texts.read_table.Goals as goal
@@ -15,4 +16,4 @@ returns-in-Err-clause-stop g c =
 
 pub returns-in-Ok-clause-text : goal.returns-in-Ok-clause-text
 returns-in-Ok-clause-text g c = λ text told.
-    subst (CheckedFits c.check_rules.result) (sym (rules-judged c.args.skip text c.in-Ok.file (c.in-Ok.ensures.text text told))) c.check_rules.ensures.fits
+    subst (CheckedFits c.check_rules.result) (sym (rules-judged c.args.skip text (file_says c.in-Ok.file) (c.in-Ok.ensures.text text told))) c.check_rules.ensures.fits
