@@ -17,9 +17,6 @@ one_starts true false is = absurd cc
 one_starts false true is = absurd cc
 one_starts false false is = refl
 
-pub item_weight : (s : Source) → starts (TheWord (codes "weight") ∷ []) s.rest ≡ true → reads item s ≡ reads weight s
-item_weight s here = first_reads s refl weight (choice rule evidence) here
-
 pub item_rule : (s : Source) → starts (TheWord (codes "weight") ∷ []) s.rest ≡ false → starts (TheMark 40 ∷ []) s.rest ≡ true → reads item s ≡ reads rule s
 item_rule s other here = second_reads s refl weight (choice rule evidence) other ∙ first_reads s refl rule evidence here
 

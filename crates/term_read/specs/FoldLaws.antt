@@ -11,7 +11,7 @@ use Rattle.rule_spelling.specs.RuleFiles.{rule_files}
 use Rattle.term_read.specs.declared.fault.RuleFault.{RuleFault}
 use Rattle.term_read.specs.declared.fault.RuleFault.TheVariants.{OutOfMemory}
 use Rattle.term_read.specs.Source.{Source, Answer, ◌then◌, item_then, reads}
-use Rattle.term_read.specs.ReadingLaws.{each_goes, each_ends, shorter}
+use Rattle.term_read.specs.ReadingLaws.{each_goes, shorter}
 
 -- an answer with another value
 abbrev pub mapped : {A B : Type 0} → (A → B) → Answer A → Answer B
@@ -49,13 +49,6 @@ refault (Err fault) = Err fault
 pub mapped_err : {A B : Type 0} (f : A → B) (o : Answer A) (fault : RuleFault) → mapped f o ≡ Err fault → o ≡ Err fault
 mapped_err f (Ok found) fault e = absurd cc
 mapped_err f (Err other) fault e = ap refault e
-
--- an answer with a value of the answer
-pub mapped_gives : {A B : Type 0} (f : A → B) (o : Answer A) (a : A) (s : Source) → o ≡ Ok (a, s) → mapped f o ≡ Ok (f a, s)
-mapped_gives f o a s e = ap (mapped f) e
-
-pub mapped_fails : {A B : Type 0} (f : A → B) (o : Answer A) (fault : RuleFault) → o ≡ Err fault → mapped f o ≡ Err fault
-mapped_fails f o fault e = ap (mapped f) e
 
 -- less is left
 pub mapped_less : {p : Lookahead} {A B : Type 0} (f : A → B) (g : Grammar rule_files p A) → p.nullable ≡ false → (s : Source) (b : B) (s' : Source)
@@ -98,16 +91,8 @@ module _ {p : Lookahead} {A : Type 0} (s : Source) (never : p.nullable ≡ false
       cond_true (takes_first rule_files (p ⨟ nothing) nothing s.rest) _ _ _
       (first_is (p ⨟ nothing) nothing s.rest true (ap (λ (n : Bool). n && true) never) (starts_same p s.rest ∙ begun)) refl
 
-  pub optional_none : (g : Grammar rule_files p A) → starts p.firsts s.rest ≡ false → reads (optional rule_files g) s ≡ Ok (None, s)
-  optional_none g none =
-      cond_false (takes_first rule_files (p ⨟ nothing) nothing s.rest) _ _ _
-      (first_is (p ⨟ nothing) nothing s.rest false (ap (λ (n : Bool). n && true) never) (starts_same p s.rest ∙ none)) refl
-
   pub some_reads : (g : Grammar rule_files p (List A)) → starts p.firsts s.rest ≡ true → reads (maybe_none rule_files g) s ≡ reads g s
   some_reads g begun = cond_true (takes_first rule_files p nothing s.rest) _ _ _ (first_is p nothing s.rest true never begun) refl
-
-  pub none_reads : (g : Grammar rule_files p (List A)) → starts p.firsts s.rest ≡ false → reads (maybe_none rule_files g) s ≡ Ok ([], s)
-  none_reads g none = cond_false (takes_first rule_files p nothing s.rest) _ _ _ (first_is p nothing s.rest false never none) refl
 
 -- a comma and an item behind it, which is added
 pub sought_adds : {p : Lookahead} {A B : Type 0} (step : B → A → B) (g : Grammar rule_files p A) → p.nullable ≡ false → (b : B) (s s' : Source)
@@ -122,14 +107,6 @@ sought_adds {A = A} {B = B} step g never b s s' comma begun =
     go : (o : Answer A) → mapped (added step b) (mapped (λ a. Some a) o) ≡ (mapped (step b) o then λ b s. Ok ((true, b), s))
     go (Ok found) = refl
     go (Err fault) = refl
-
--- no item behind the last comma
-pub sought_none : {p : Lookahead} {A B : Type 0} (step : B → A → B) (g : Grammar rule_files p A) → p.nullable ≡ false → (b : B) (s s' : Source)
-    → reads (mark rule_files 44) s ≡ Ok (tt, s') → starts p.firsts s'.rest ≡ false
-    → mapped (added step b) (reads (sequence (mark rule_files 44) (λ _. optional rule_files g)) s) ≡ Ok ((false, b), s')
-sought_none step g never b s s' comma none =
-    ap (λ (o : Answer (Unit {0})). mapped (added step b) (o then λ _ s. reads (optional rule_files g) s)) comma
-    ∙ ap (mapped (added step b)) (optional_none s' never g none)
 
 -- ---- many items
 
@@ -179,7 +156,3 @@ module _ {A B : Type 0} (fold : B → List A → B) (step : B → A → B) (nil 
         sym so_far
         ∙ ap (mapped (fold b)) (each_goes g s never begun
         ∙ ap (λ o. o then λ found s'. item_then found s' (reads (repetition g))) (mapped_err (added step b) (reads g s) fault is))
-
-    -- no item begins
-    pub fold_ends : starts p.firsts s.rest ≡ false → total ≡ Ok (b, s)
-    fold_ends none = sym so_far ∙ ap (mapped (fold b)) (each_ends g s none) ∙ ap (λ b. gave (b, s)) (nil b)
