@@ -38,7 +38,8 @@ module _ (Named : (place : Place) → Fact rule_files Terms)
   said : (place : Place) → Gives rule_files (Said place) (Named place)
   said place x term K ts s = record { state = s.0; rest = s.1; made = s.2; behind = s.3 }
 
-  read_parts : {p : Lookahead} {A : Type 0} (g : Grammar rule_files p A) (x : State) (ts : List Terminal) (f : Reading rule_files A) → read rule_files any g x ts ≡ Ok f
+  read_parts : {p : Lookahead} {A : Type 0} (g : Grammar rule_files p A) (x : State) (ts : List Terminal) (f : Reading rule_files A)
+      → read rule_files any g x ts ≡ Ok f
       → Made rule_files Named g x f.value f.state
   read_parts g x ts f e =
       let spelled = read_is_spelled rule_files Said any sound g x ts f e (λ y rest. y ≡ f.state) refl in

@@ -26,7 +26,8 @@ abbrev pub other_items : Grammar rule_files (star (one (TheMark 44) ⨟ ((begins
 other_items = each_behind_comma_then_maybe_one rule_files item
 
 -- the items of a file, or none
-abbrev pub all_items : Grammar rule_files ((begins item_firsts [] ⨟ star (one (TheMark 44) ⨟ ((begins item_firsts [] ⨟ nothing) ∪ nothing)) ⨟ nothing) ∪ nothing)
+abbrev pub all_items : Grammar rule_files
+    ((begins item_firsts [] ⨟ star (one (TheMark 44) ⨟ ((begins item_firsts [] ⨟ nothing) ∪ nothing)) ⨟ nothing) ∪ nothing)
     (List Item)
 all_items = maybe_none rule_files (listed rule_files item)
 
