@@ -1,11 +1,11 @@
 -- Lists of evidence are read item by item.
-use Rattle.std.proofs.Common.{◌≡◌, ◌+◌, ◌≤◌, Bool, true, false, not, List, [], ◌∷◌, ◌++◌, ◌||◌, ◌&&◌, length, Option, Some, Ok, Err, refl, sym, ap, ◌∙◌, arith}
+use Rattle.std.proofs.Common.{◌≡◌, ◌+◌, ◌≤◌, Bool, true, false, not, List, [], ◌∷◌, ◌++◌, ◌||◌, ◌&&◌, length, Option, Some, Ok, Err, refl, ap, ◌∙◌, arith}
 use Rattle.std.proofs.lemmas.List.{append-nil}
 use Rattle.grammar.specs.ChoiceLaws.{cond_true, cond_false}
 use Rattle.grammar.specs.Grammar.{Grammar, empty, sequence, repetition}
-use Rattle.grammar.specs.Lookahead.{Lookahead, one, nothing, ◌⨟◌}
+use Rattle.grammar.specs.Lookahead.{one, nothing, ◌⨟◌}
 use Rattle.grammar.specs.Terminals.{Class, TheMark, has, starts}
-use Rattle.grammar.specs.Words.{each_behind_comma, mark, separated}
+use Rattle.grammar.specs.Words.{each_behind_comma, mark}
 use Rattle.rule_spelling.specs.RuleFiles.{rule_files}
 use Rattle.term_read.specs.ReadingLaws.{each_ends, each_goes, regroup, shorter, with_front}
 use Rattle.term_read.specs.Source.{Source, Answer, ◌then◌, item_then, reads}

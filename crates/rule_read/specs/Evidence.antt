@@ -1,7 +1,7 @@
 -- Parts of the grammar of evidence that functions of the code read, and what they answer.
-use Rattle.std.specs.Prelude.{[], ◌∷◌, List, Option, Some, None, map, ℕ, codes}
+use Rattle.std.specs.Prelude.{[], ◌∷◌, Option, Some, None, map, ℕ, codes}
 use Rattle.grammar.specs.Grammar.{Grammar, empty}
-use Rattle.grammar.specs.Lookahead.{Lookahead, begins, maybe_begins}
+use Rattle.grammar.specs.Lookahead.{begins}
 use Rattle.grammar.specs.Terminals.{ANumber, TheMark, TheWord, WordBut}
 use Rattle.grammar.specs.Words.{◌>>=◌, ◌>>◌, ◌or◌, bytes, mark, word}
 use Rattle.rule_spelling.specs.Files.{Step}

@@ -54,7 +54,11 @@ impl Listed for Log {
         at.is_mark(b'(')
     }
 
-    fn read_another<'a>(&mut self, alloc: Global, reader: &mut Reader<'a>) -> Result<(), RuleFault> {
+    fn read_another<'a>(
+        &mut self,
+        alloc: Global,
+        reader: &mut Reader<'a>,
+    ) -> Result<(), RuleFault> {
         let step = log_step(alloc, reader)?;
         self.push(step)?;
         Ok(())

@@ -117,7 +117,11 @@ impl Listed for Seq<u32> {
         is_number(at)
     }
 
-    fn read_another<'a>(&mut self, _alloc: Global, reader: &mut Reader<'a>) -> Result<(), RuleFault> {
+    fn read_another<'a>(
+        &mut self,
+        _alloc: Global,
+        reader: &mut Reader<'a>,
+    ) -> Result<(), RuleFault> {
         let number = index(reader)?;
         self.push(number)?;
         Ok(())
@@ -144,7 +148,11 @@ impl Listed for Lits {
         is_number(at)
     }
 
-    fn read_another<'a>(&mut self, _alloc: Global, reader: &mut Reader<'a>) -> Result<(), RuleFault> {
+    fn read_another<'a>(
+        &mut self,
+        _alloc: Global,
+        reader: &mut Reader<'a>,
+    ) -> Result<(), RuleFault> {
         let number = literal(reader)?;
         self.push(number)?;
         Ok(())

@@ -52,11 +52,7 @@ fn name_of_binding<'a>(reader: &mut Reader<'a>) -> Result<&'a [u8], RuleFault>
 }
 
 /// The `=` and the expression of a binding of this name.
-fn bound_to<'a>(
-    alloc: Global,
-    name: &[u8],
-    reader: &mut Reader<'a>,
-) -> Result<Binding, RuleFault>
+fn bound_to<'a>(alloc: Global, name: &[u8], reader: &mut Reader<'a>) -> Result<Binding, RuleFault>
     ensures { Gives (λ x. (binding_says x, source reader.new)) result (reads (bound_to name.now) (source reader.old)) }
 {
     reader.side(b'=')?;
@@ -96,7 +92,11 @@ impl Listed for Bindings {
         at.is_any_word()
     }
 
-    fn read_another<'a>(&mut self, alloc: Global, reader: &mut Reader<'a>) -> Result<(), RuleFault> {
+    fn read_another<'a>(
+        &mut self,
+        alloc: Global,
+        reader: &mut Reader<'a>,
+    ) -> Result<(), RuleFault> {
         let binding = binding(alloc, reader)?;
         self.push(binding)?;
         Ok(())
@@ -241,7 +241,11 @@ impl Listed for Derivation {
         at.is_mark(b'(')
     }
 
-    fn read_another<'a>(&mut self, alloc: Global, reader: &mut Reader<'a>) -> Result<(), RuleFault> {
+    fn read_another<'a>(
+        &mut self,
+        alloc: Global,
+        reader: &mut Reader<'a>,
+    ) -> Result<(), RuleFault> {
         let step = step(alloc, reader)?;
         self.push(step)?;
         Ok(())

@@ -1,10 +1,9 @@
-use Rattle.std.proofs.Common.{◌≡◌, true, false, List, [], ◌∷◌, length, refl, sym, ap, ◌∙◌}
+use Rattle.std.proofs.Common.{List, length, refl, sym, ap, ◌∙◌}
 use Rattle.std.proofs.lemmas.Result.{err_from_is_err_and}
-use Rattle.grammar.specs.Terminals.{has, starts, TheMark}
 use Rattle.rule_read.specs.Lists.{another_behind, with_others}
 use Rattle.term_read.specs.ReadingLaws.{fails, less_from}
 use Rattle.term_read.specs.Source.{Answer, ◌then◌}
-use Rattle.term_read.specs.Views.{here, source, terminals}
+use Rattle.term_read.specs.Views.{source, terminals}
 use Rattle.rule_read.proofs.ListLaws.{begun, behind_shorter, none_begun, others_end, others_go}
 use Rattle.rule_read.proofs.list.with_others.Goals as goal
 
