@@ -16,4 +16,5 @@ pub mod Sound
 pub mod StandingLaws
 pub mod StepsLaws
 pub mod TermsLaws
+pub mod Views
 pub mod WordsLaws

@@ -8,9 +8,11 @@ ghost use Rattle.law_derive.specs.Sound.{DerivationsAreSound};
 
 mod law;
 mod node;
+mod table;
 
 pub use law::{Law, LawNode};
 pub use node::{Kind, Node};
+pub use table::laws;
 
 /// Each law holds at each of its sizes, for all words of its letters that meet its condition.
 pub fn laws_hold()
