@@ -8,6 +8,7 @@ ghost use Rattle.law_derive.specs.Sound.{DerivationsAreSound};
 
 mod law;
 mod node;
+mod parts;
 mod table;
 
 pub use law::{Law, LawNode};
