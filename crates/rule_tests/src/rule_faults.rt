@@ -19,8 +19,8 @@ static FAULTS: &[(&str, RuleFault)] = &[
     ("[((iadd, a), b)]", Arity(10)),
     ("[((iadd, a, 0), b, 'x')]", Unbound(16)),
     (
-        "[((ineg, (ineg, (ineg, (ineg, (ineg, (ineg, (ineg, (ineg, (ineg, (ineg, (ineg, (ineg, (ineg, (ineg, (ineg, (ineg, (ineg, (fneg, a)))))))))))))))))), b)]",
-        TooLarge(115),
+        "[((ineg,(ineg,(ineg,(ineg,(ineg,(ineg,(ineg,(ineg,(ineg,(ineg,(ineg,(ineg,(ineg,(ineg,(ineg,(ineg,(ineg, (fneg, a)))))))))))))))))), b)]",
+        TooLarge(99),
     ),
     (
         "[((iadd, a, 0), a, 'lower'), weight iadd 61]",
@@ -37,20 +37,20 @@ static FAULTS: &[(&str, RuleFault)] = &[
     ),
     ("[((iadd, a, 0), '#b@int')]", Excluded(16)),
     (
-        "[((ineg, (ineg, (ineg, (ineg, (ineg, (ineg, (ineg, (ineg, (ineg, (ineg, (ineg, (ineg, (ineg, (ineg, (ineg, (ineg, (mov, a))))))))))))))))), a)]",
-        Excluded(115),
+        "[((ineg,(ineg,(ineg,(ineg,(ineg,(ineg,(ineg,(ineg,(ineg,(ineg,(ineg,(ineg,(ineg,(ineg,(ineg,(ineg,(mov, a))))))))))))))))), a)]",
+        Excluded(99),
     ),
     ("[((iadd, a, 0), ('ineg(is_used_once)', a))]", Expected(17)),
     ("[(('fadd(is_not_const)', a, 0), a)]", Expected(3)),
     ("[((iadd, a, 0), ('fneg(is_used_once)', a))]", Expected(17)),
     ("[((iadd, a, 0), 'b@8')]", Expected(16)),
     (
-        "[((ineg, (ineg, (ineg, (ineg, (ineg, (ineg, (ineg, (ineg, (ineg, (ineg, (ineg, (ineg, (ineg, (ineg, (ineg, (ineg, ('#ineg', a))))))))))))))))), a)]",
-        Expected(115),
+        "[((ineg,(ineg,(ineg,(ineg,(ineg,(ineg,(ineg,(ineg,(ineg,(ineg,(ineg,(ineg,(ineg,(ineg,(ineg,(ineg,('#ineg', a))))))))))))))))), a)]",
+        Expected(99),
     ),
     (
-        "[((ineg, (ineg, (ineg, (ineg, (ineg, (ineg, (ineg, (ineg, (ineg, (ineg, (ineg, (ineg, (ineg, (ineg, (ineg, (ineg, (fneg, a))))))))))))))))), a)]",
-        UnknownOp(115),
+        "[((ineg,(ineg,(ineg,(ineg,(ineg,(ineg,(ineg,(ineg,(ineg,(ineg,(ineg,(ineg,(ineg,(ineg,(ineg,(ineg,(fneg, a))))))))))))))))), a)]",
+        UnknownOp(99),
     ),
     // Bytes that are no tokens, and numbers that are none.
     ("[((iadd, a, - 1), a)]", Lex(BadByte(12))),

@@ -49,8 +49,10 @@ static READ: &[(&str, &str)] = &[
         "0 of 1: Bcsel ( v0 bool1 Ior ( bool0 v0 ) ) -> v0 always; weights:",
     ),
     (
-        "[((imul, '#a@1(is_neg_power_of_two)', (imul, 'b@32(is_unsigned_multiple_of_4)', (imul, 'a@64(is_upper_half_zero)', (imul, 'c(is_lower_half_zero)', (imul, '#b(is_not_const)', '_9(is_used_once)'))))), (iadd, _9, b))]",
-        "0 of 4: Imul ( v0#@W1 NegPow2 Imul ( v1@W32 MultipleOf4 Imul ( v0@W64 UpperHalfZero Imul ( v2 LowerHalfZero Imul ( v1# NotConst v3 UsedOnce ) ) ) ) ) -> Iadd ( v3 v1 ) always; weights:",
+        "[((imul, '#a@1(is_neg_power_of_two)', (imul, 'b@32(is_unsigned_multiple_of_4)', \
+            (imul, 'a@64(is_upper_half_zero)', (imul, 'c(is_lower_half_zero)', (imul, '#b(is_not_const)', '_9(is_used_once)'))))), (iadd, _9, b))]",
+        "0 of 4: Imul ( v0#@W1 NegPow2 Imul ( v1@W32 MultipleOf4 \
+            Imul ( v0@W64 UpperHalfZero Imul ( v2 LowerHalfZero Imul ( v1# NotConst v3 UsedOnce ) ) ) ) ) -> Iadd ( v3 v1 ) always; weights:",
     ),
     (
         "[((iadd, 18446744073709551615, (imul, -9223372036854775808, by)), by), ]",
