@@ -1,6 +1,28 @@
 -- What the code of this crate holds, as the definitions see it.
+use Rattle.std.specs.Prelude.{List, []}
+use Rattle.nir_ops.specs.declared.width.Width.{Width}
+use Rattle.nir_ops.specs.Opcodes.{op_info}
+use Rattle.nir_ops.specs.Width.{width_bits}
+use Rattle.op_eval.specs.Calls.{source_widths}
+use Rattle.op_eval.specs.Word.{residue}
 use Rattle.law_derive.specs.declared.law.Law as code
-use Rattle.law_derive.specs.LawTable.{Law}
+use Rattle.law_derive.specs.declared.law.LawNode.{LawNode}
+use Rattle.law_derive.specs.declared.law.LawNode.TheVariants.{App, Letter, Lit}
+use Rattle.law_derive.specs.declared.node.Kind.TheVariants as kind
+use Rattle.law_derive.specs.declared.node.Node.{Node}
+use Rattle.law_derive.specs.LawTable.{Law, unsized_in}
 
 abbrev pub law_says : code.Law → Law
 law_says law = record { left = law.left.now; right = law.right.now; bit = law.bit; cond = law.cond }
+
+-- the node of a part of a side, at its size
+abbrev pub node_at : LawNode → Width → Node
+node_at (App op) size = record { kind = kind.App op; width = size }
+node_at (Letter letter) size = record { kind = kind.Var letter; width = size }
+node_at (Lit value boolean) size = record { kind = kind.Lit (residue (width_bits size) value); width = size }
+
+-- the sizes of the sources of a part, where the law has one size and the part another
+abbrev pub sources_at : Width → LawNode → Width → List Width
+sources_at width (App op) size = source_widths op (unsized_in width (op_info op).out.size size)
+sources_at width (Letter letter) size = []
+sources_at width (Lit value boolean) size = []

@@ -9,6 +9,7 @@ ghost use Rattle.law_derive.specs.Sound.{DerivationsAreSound};
 mod law;
 mod node;
 mod parts;
+mod side;
 mod table;
 
 pub use law::{Law, LawNode};
