@@ -9,6 +9,7 @@ ghost use Rattle.law_derive.specs.Sound.{DerivationsAreSound};
 mod law;
 mod node;
 mod parts;
+mod same;
 mod side;
 mod table;
 
