@@ -1,5 +1,5 @@
 -- What the code of this crate holds, as the definitions see it.
-use Rattle.std.specs.Prelude.{List, []}
+use Rattle.std.specs.Prelude.{Bool, List, [], map, Option, Some, None, if◌then◌else◌}
 use Rattle.nir_ops.specs.declared.width.Width.{Width}
 use Rattle.nir_ops.specs.Opcodes.{op_info}
 use Rattle.nir_ops.specs.Width.{width_bits}
@@ -10,7 +10,9 @@ use Rattle.law_derive.specs.declared.law.LawNode.{LawNode}
 use Rattle.law_derive.specs.declared.law.LawNode.TheVariants.{App, Letter, Lit}
 use Rattle.law_derive.specs.declared.node.Kind.TheVariants as kind
 use Rattle.law_derive.specs.declared.node.Node.{Node}
+use Rattle.law_derive.specs.declared.matching.Filled as code_filled
 use Rattle.law_derive.specs.LawTable.{Law, unsized_in}
+use Rattle.law_derive.specs.Matching.{Filling}
 
 abbrev pub law_says : code.Law → Law
 law_says law = record { left = law.left.now; right = law.right.now; bit = law.bit; cond = law.cond }
@@ -26,3 +28,12 @@ abbrev pub sources_at : Width → LawNode → Width → List Width
 sources_at width (App op) size = source_widths op (unsized_in width (op_info op).out.size size)
 sources_at width (Letter letter) size = []
 sources_at width (Lit value boolean) size = []
+
+-- ---- fillings
+
+abbrev pub filling_says : List code_filled.Filled → Filling
+filling_says list = map (λ one. (one.letter, one.term.now)) list
+
+-- a filling, where the answer is yes
+abbrev pub answer_of : Bool → Filling → Option Filling
+answer_of is filling = if is then Some filling else None

@@ -7,6 +7,7 @@ ghost use Rattle.law_derive.specs.LawsHold.{LawsHold};
 ghost use Rattle.law_derive.specs.Sound.{DerivationsAreSound};
 
 mod law;
+mod matching;
 mod node;
 mod parts;
 mod same;
