@@ -37,3 +37,8 @@ filling_says list = map (λ one. (one.letter, one.term.now)) list
 -- a filling, where the answer is yes
 abbrev pub answer_of : Bool → Filling → Option Filling
 answer_of is filling = if is then Some filling else None
+
+-- what stands behind is matched next, where something matched
+abbrev pub goes_on : Option (List Node) → (List Node → Filling → Option Filling) → Filling → Option Filling
+goes_on None others filling = None
+goes_on (Some behind) others filling = others behind filling

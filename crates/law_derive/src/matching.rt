@@ -1,12 +1,14 @@
 //! Matching a side of a law with a term, and filling a side with terms.
 
-ghost use Rattle.std.specs.Prelude.{◌≡◌, IfOk};
+ghost use Rattle.std.specs.Prelude.{◌≡◌, IfOk, List, Option};
 ghost use Rattle.std.specs.Option.{option_map};
-ghost use Rattle.law_derive.specs.Matching.{found, taken};
-ghost use Rattle.law_derive.specs.Views.{answer_of, filling_says};
+ghost use Rattle.law_derive.specs.declared.node.Node.{Node as Part};
+ghost use Rattle.law_derive.specs.Matching.{Filling as Known, found, match_first, match_side, taken};
+ghost use Rattle.law_derive.specs.Views.{answer_of, filling_says, goes_on};
 
-use crate::node::Node;
-use crate::same::same_nodes;
+use crate::node::{Kind, Node};
+use crate::parts::extent;
+use crate::same::{same_node, same_nodes, same_width};
 use nir_host::OutOfMemory;
 
 /// A letter, and the term for which it stands.
@@ -46,4 +48,52 @@ fn take<'a>(
         Ok(()) => Ok(true),
         Err(_failed) => Err(OutOfMemory),
     }
+}
+
+/// The first part of a side at the first of the nodes: those behind what it matched, None where it does not match.
+fn match_part<'a>(
+    part: Node,
+    nodes: &'a [Node],
+    filling: &mut Filling<'a>,
+) -> Result<Option<&'a [Node]>, OutOfMemory>
+    ensures { IfOk result (λ behind. (others : List Part → Known → Option Known) → match_first part nodes.now (filling_says filling.old.items) others
+        ≡ goes_on (option_map (λ list. list.now) behind) others (filling_says filling.new.items)) }
+{
+    let Some((node, behind)) = nodes.split_first() else {
+        return Ok(None);
+    };
+    let Kind::Var { var } = part.kind else {
+        if !same_node(part, *node) {
+            return Ok(None);
+        }
+        return Ok(Some(behind));
+    };
+    if !same_width(part.width, node.width) {
+        return Ok(None);
+    }
+    let size = extent(1, nodes);
+    if !take(filling, var, &nodes[..size])? {
+        return Ok(None);
+    }
+    Ok(Some(&nodes[size..]))
+}
+
+/// Whether a side matches the terms that begin here. Its letters are filled.
+pub fn match_side<'a>(
+    side: &[Node],
+    nodes: &'a [Node],
+    filling: &mut Filling<'a>,
+) -> Result<bool, OutOfMemory>
+    ensures { IfOk result (λ is. match_side side.now nodes.now (filling_says filling.old.items) ≡ answer_of is (filling_says filling.new.items)) }
+{
+    let mut left = side;
+    let mut rest = nodes;
+    'parts: while let Some((part, others)) = left.split_first() {
+        let Some(behind) = match_part(*part, rest, filling)? else {
+            return Ok(false);
+        };
+        rest = behind;
+        left = others;
+    }
+    Ok(true)
 }
