@@ -34,11 +34,7 @@ pub fn found<'a>(filling: &[Filled<'a>], letter: u32) -> Option<&'a [Node]>
 }
 
 /// A letter takes a term, or has it already; false where it has another one.
-fn take<'a>(
-    filling: &mut Filling<'a>,
-    letter: u32,
-    term: &'a [Node],
-) -> Result<bool, OutOfMemory>
+fn take<'a>(filling: &mut Filling<'a>, letter: u32, term: &'a [Node]) -> Result<bool, OutOfMemory>
     ensures { IfOk result (λ is. taken letter term.now (filling_says filling.old.items) (found letter (filling_says filling.old.items)) ≡ answer_of is (filling_says filling.new.items)) }
 {
     if let Some(own) = found(filling.as_slice(), letter) {

@@ -64,11 +64,7 @@ fn free_size(width: Width, out: Option<Width>, size: Width) -> Width
 }
 
 /// The sizes of sources, where the unsized ones have this one.
-fn push_sources(
-    sizes: &mut Seq<Width>,
-    inputs: &[OpInput],
-    free: Width,
-) -> Result<(), OutOfMemory>
+fn push_sources(sizes: &mut Seq<Width>, inputs: &[OpInput], free: Width) -> Result<(), OutOfMemory>
     ensures { OnOk result (sizes.new ≡ sizes.old ++ map (λ input. size_at input.kind.size free) inputs.now) }
 {
     for input in inputs {
