@@ -2,9 +2,9 @@
 """Times `nir_opt check` on large rule files: bench/rules.py [RUNS]
 
 Takes the program as the gate left it (crates/nir_opt/out/nir_opt, built by LLVM), makes rule files, runs `check` on each RUNS times
-(3 if left out), and prints the least processor times and the most memory beside the size of the text. The status is 1 where a run takes
-as long as its limit, or ten times the text or more in memory where there is such a limit, or does not end with its status, and 2 where
-there is no program.
+(3 if left out), and prints the least processor times beside the size of the text and, where it has a limit, the most memory. The status
+is 1 where a run takes as long as its limit, or ten times the text or more in memory, or does not end with its status, and 2 where there
+is no program.
 """
 import os
 import random
@@ -92,7 +92,8 @@ def main():
             failed = True
             continue
         size = len(text) / 1_048_576
-        print(f"{name:<32} {size:>11.1f} {told[0]:>9.3f} {limit:>6.2f} {told[1]:>7.1f}")
+        memory = f"{told[1]:.1f}" if is_small else ""
+        print(f"{name:<32} {size:>11.1f} {told[0]:>9.3f} {limit:>6.2f} {memory:>7}")
         failed |= told[0] >= limit or (is_small and told[1] >= 10 * size)
     sys.exit(1 if failed else 0)
 
