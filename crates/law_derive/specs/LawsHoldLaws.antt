@@ -75,174 +75,77 @@ umod_power_met w x c few met = let found = power_met w c met in rw (found.2, wor
 
 -- ---- the table
 
+value : {a b : ℕ} → a ≡ b → a ∷ [] ≡ b ∷ []
+value same = ap (λ v. v ∷ []) same
+
+least_one : {bits : ℕ} → 8 ≤ bits → 1 ≤ bits
+least_one enough = omega (arith, enough)
+
+least_two : {bits : ℕ} → 8 ≤ bits → 2 ≤ bits
+least_two enough = omega (arith, enough)
+
+-- a fact before others
+infixr 4 ◌also◌
+abbrev ◌also◌ : {A B : Type 0} → A → B → A × B
+a also b = (a, b)
+
 pub laws_hold : LawsHold
 unfolding op_info row_of result_width source_widths unsized_width
-laws_hold = (
-  λ width enough words are met. ap (λ v. v ∷ []) (iadd_commutes (width_bits width) (word_of words 0) (word_of words 1)),
-  (
-    λ width enough words are met. ap (λ v. v ∷ []) (iadd_associates (width_bits width) (word_of words 0) (word_of words 1) (word_of words 2)),
-    (
-      λ width enough words are met. rw (word_zero (width_bits width)) (ap (λ v. v ∷ []) (iadd_zero (width_bits width) (word_of words 0) are.x)),
-      (
-        λ width enough words are met. rw (word_zero (width_bits width)) (ap (λ v. v ∷ []) (iadd_ineg (width_bits width) (word_of words 0) are.x)),
-        (
-          λ width enough words are met. ap (λ v. v ∷ []) (isub_is_iadd (width_bits width) (word_of words 0) (word_of words 1) are.x are.y),
-          (
-            λ width enough words are met. ap (λ v. v ∷ []) (ineg_ineg (width_bits width) (word_of words 0) are.x),
-            (
-              λ width enough words are met. let one : 1 ≤ width_bits width = omega (arith, enough) in rw (word_one (width_bits width) one) (ap (λ v. v ∷ []) (ineg_is_inot (width_bits width) (word_of words 0) are.x)),
-              (
-                λ width enough words are met. let one : 1 ≤ width_bits width = omega (arith, enough) in let two : 2 ≤ width_bits width = omega (arith, enough) in rw (word_one (width_bits width) one) (ap (λ v. v ∷ []) (idiv_one (width_bits width) (word_of words 0) two are.x)),
-                (
-                  λ width enough words are met. ap (λ v. v ∷ []) (imul_commutes (width_bits width) (word_of words 0) (word_of words 1)),
-                  (
-                    λ width enough words are met. ap (λ v. v ∷ []) (imul_associates (width_bits width) (word_of words 0) (word_of words 1) (word_of words 2)),
-                    (
-                      λ width enough words are met. rw (word_zero (width_bits width)) (ap (λ v. v ∷ []) (imul_zero (width_bits width) (word_of words 0))),
-                      (
-                        λ width enough words are met. let one : 1 ≤ width_bits width = omega (arith, enough) in rw (word_one (width_bits width) one) (ap (λ v. v ∷ []) (imul_one (width_bits width) (word_of words 0) are.x)),
-                        (
-                          λ width enough words are met. ap (λ v. v ∷ []) (imul_distributes (width_bits width) (word_of words 0) (word_of words 1) (word_of words 2)),
-                          (
-                            λ width enough words are met. rw (word_ones (width_bits width)) (ap (λ v. v ∷ []) (imul_ones (width_bits width) (word_of words 0) are.x)),
-                            (
-                              λ width enough words are met. ap (λ v. v ∷ []) (imul_power_met (width_bits width) (word_of words 0) (word_of words 4) (size_small width) met),
-                              (
-                                λ width enough words are met. ap (λ v. v ∷ []) (imul_negated_power_met (width_bits width) (word_of words 0) (word_of words 4) (size_small width) met),
-                                (
-                                  λ width enough words are met. ap (λ v. v ∷ []) (iand_commutes (width_bits width) (word_of words 0) (word_of words 1)),
-                                  (
-                                    λ width enough words are met. ap (λ v. v ∷ []) (iand_associates (width_bits width) (word_of words 0) (word_of words 1) (word_of words 2) are.x are.y),
-                                    (
-                                      λ width enough words are met. ap (λ v. v ∷ []) (iand_itself (width_bits width) (word_of words 0) are.x),
-                                      (
-                                        λ width enough words are met. rw (word_zero (width_bits width)) (ap (λ v. v ∷ []) (iand_zero (width_bits width) (word_of words 0) are.x)),
-                                        (
-                                          λ width enough words are met. rw (word_ones (width_bits width)) (ap (λ v. v ∷ []) (iand_ones (width_bits width) (word_of words 0) are.x)),
-                                          (
-                                            λ width enough words are met. ap (λ v. v ∷ []) (ior_commutes (width_bits width) (word_of words 0) (word_of words 1)),
-                                            (
-                                              λ width enough words are met. ap (λ v. v ∷ []) (ior_associates (width_bits width) (word_of words 0) (word_of words 1) (word_of words 2) are.x are.y are.z),
-                                              (
-                                                λ width enough words are met. ap (λ v. v ∷ []) (ior_itself (width_bits width) (word_of words 0) are.x),
-                                                (
-                                                  λ width enough words are met. rw (word_zero (width_bits width)) (ap (λ v. v ∷ []) (ior_zero (width_bits width) (word_of words 0) are.x)),
-                                                  (
-                                                    λ width enough words are met. ap (λ v. v ∷ []) (ixor_commutes (width_bits width) (word_of words 0) (word_of words 1)),
-                                                    (
-                                                      λ width enough words are met. ap (λ v. v ∷ []) (ixor_associates (width_bits width) (word_of words 0) (word_of words 1) (word_of words 2) are.x are.y are.z),
-                                                      (
-                                                        λ width enough words are met. rw (word_zero (width_bits width)) (ap (λ v. v ∷ []) (ixor_itself (width_bits width) (word_of words 0) are.x)),
-                                                        (
-                                                          λ width enough words are met. rw (word_zero (width_bits width)) (ap (λ v. v ∷ []) (ixor_zero (width_bits width) (word_of words 0) are.x)),
-                                                          (
-                                                            λ width enough words are met. rw (word_ones (width_bits width)) (ap (λ v. v ∷ []) (inot_is_ixor (width_bits width) (word_of words 0) are.x)),
-                                                            (
-                                                              λ width enough words are met. ap (λ v. v ∷ []) (inot_iand (width_bits width) (word_of words 0) (word_of words 1) are.x are.y),
-                                                              (
-                                                                λ width enough words are met. ap (λ v. v ∷ []) (iand_distributes (width_bits width) (word_of words 0) (word_of words 1) (word_of words 2) are.x are.y are.z),
-                                                                (
-                                                                  λ width enough words are met. rw (word_zero (width_bits width)) (ap (λ v. v ∷ []) (iand_inot (width_bits width) (word_of words 0) are.x)),
-                                                                  (
-                                                                    λ width enough words are met. let one : 1 ≤ width_bits width = omega (arith, enough) in let two : 2 ≤ width_bits width = omega (arith, enough) in rw (word_zero (width_bits width), word_one (width_bits width) one) (ap (λ v. v ∷ []) (irem_one (width_bits width) (word_of words 0) two)),
-                                                                    (
-                                                                      λ width enough words are met. rw (word_one 1 (lit≤ tt)) (ap (λ v. v ∷ []) (ieq_itself (width_bits width) (word_of words 0))),
-                                                                      (
-                                                                        λ width enough words are met. ap (λ v. v ∷ []) (ieq_commutes (width_bits width) (word_of words 0) (word_of words 1)),
-                                                                        (
-                                                                          λ width enough words are met. ap (λ v. v ∷ []) (ine_is_inot (width_bits width) (word_of words 0) (word_of words 1)),
-                                                                          (
-                                                                            λ width enough words are met. ap (λ v. v ∷ []) (ige_is_inot (width_bits width) (word_of words 0) (word_of words 1)),
-                                                                            (
-                                                                              λ width enough words are met. ap (λ v. v ∷ []) (uge_is_inot (width_bits width) (word_of words 0) (word_of words 1)),
-                                                                              (
-                                                                                λ width enough words are met. rw (word_zero 1) (ap (λ v. v ∷ []) (ilt_itself (width_bits width) (word_of words 0))),
-                                                                                (
-                                                                                  λ width enough words are met. rw (word_zero 1) (ap (λ v. v ∷ []) (ult_itself (width_bits width) (word_of words 0))),
-                                                                                  (
-                                                                                    λ width enough words are met. rw (word_zero (width_bits width)) (ap (λ v. v ∷ []) (ieq_isub (width_bits width) (word_of words 0) (word_of words 1) are.x are.y)),
-                                                                                    (
-                                                                                      λ width enough words are met. rw (word_zero (width_bits width), word_zero 1) (ap (λ v. v ∷ []) (ult_zero (width_bits width) (word_of words 0))),
-                                                                                      (
-                                                                                        λ width enough words are met. let one : 1 ≤ width_bits width = omega (arith, enough) in rw (word_zero (width_bits width), word_one (width_bits width) one) (ap (λ v. v ∷ []) (ult_one (width_bits width) (word_of words 0))),
-                                                                                        (
-                                                                                          λ width enough words are met. rw (word_one 1 (lit≤ tt)) (ap (λ v. v ∷ []) (bcsel_true (width_bits width) (word_of words 0) (word_of words 1) are.x)),
-                                                                                          (
-                                                                                            λ width enough words are met. rw (word_zero 1) (ap (λ v. v ∷ []) (bcsel_false (width_bits width) (word_of words 0) (word_of words 1) are.y)),
-                                                                                            (
-                                                                                              λ width enough words are met. ap (λ v. v ∷ []) (bcsel_same (width_bits width) (word_of words 3) (word_of words 0) are.b are.x),
-                                                                                              (
-                                                                                                λ width enough words are met. ap (λ v. v ∷ []) (bcsel_inot (width_bits width) (word_of words 3) (word_of words 0) (word_of words 1) are.b),
-                                                                                                (
-                                                                                                  λ width enough words are met. let one : 1 ≤ width_bits width = omega (arith, enough) in ap (λ v. v ∷ []) (imin_is_bcsel (width_bits width) (word_of words 0) (word_of words 1) one are.x are.y),
-                                                                                                  (
-                                                                                                    λ width enough words are met. let one : 1 ≤ width_bits width = omega (arith, enough) in ap (λ v. v ∷ []) (imax_is_bcsel (width_bits width) (word_of words 0) (word_of words 1) one are.x are.y),
-                                                                                                    (
-                                                                                                      λ width enough words are met. ap (λ v. v ∷ []) (umin_is_bcsel (width_bits width) (word_of words 0) (word_of words 1) are.x are.y),
-                                                                                                      (
-                                                                                                        λ width enough words are met. ap (λ v. v ∷ []) (umax_is_bcsel (width_bits width) (word_of words 0) (word_of words 1) are.x are.y),
-                                                                                                        (
-                                                                                                          λ width enough words are met. ap (λ v. v ∷ []) (udiv_power_met (width_bits width) (word_of words 0) (word_of words 4) (size_small width) met),
-                                                                                                          (
-                                                                                                            λ width enough words are met. ap (λ v. v ∷ []) (umod_power_met (width_bits width) (word_of words 0) (word_of words 4) (size_small width) met),
-                                                                                                            (
-                                                                                                              λ width enough words are met. rw (word_zero 32) (ap (λ v. v ∷ []) (ishl_zero (width_bits width) (word_of words 0) are.x)),
-                                                                                                              (
-                                                                                                                λ width enough words are met. rw (word_zero 32) (ap (λ v. v ∷ []) (ushr_zero (width_bits width) (word_of words 0) are.x)),
-                                                                                                                tt,
-                                                                                                              ),
-                                                                                                            ),
-                                                                                                          ),
-                                                                                                        ),
-                                                                                                      ),
-                                                                                                    ),
-                                                                                                  ),
-                                                                                                ),
-                                                                                              ),
-                                                                                            ),
-                                                                                          ),
-                                                                                        ),
-                                                                                      ),
-                                                                                    ),
-                                                                                  ),
-                                                                                ),
-                                                                              ),
-                                                                            ),
-                                                                          ),
-                                                                        ),
-                                                                      ),
-                                                                    ),
-                                                                  ),
-                                                                ),
-                                                              ),
-                                                            ),
-                                                          ),
-                                                        ),
-                                                      ),
-                                                    ),
-                                                  ),
-                                                ),
-                                              ),
-                                            ),
-                                          ),
-                                        ),
-                                      ),
-                                    ),
-                                  ),
-                                ),
-                              ),
-                            ),
-                          ),
-                        ),
-                      ),
-                    ),
-                  ),
-                ),
-              ),
-            ),
-          ),
-        ),
-      ),
-    ),
-  ),
-)
+laws_hold =
+    (λ width enough words are met. value (iadd_commutes _ _ _))
+    also (λ width enough words are met. value (iadd_associates _ _ _ _))
+    also (λ width enough words are met. rw (word_zero (width_bits width)) (value (iadd_zero _ _ are.x)))
+    also (λ width enough words are met. rw (word_zero (width_bits width)) (value (iadd_ineg _ _ are.x)))
+    also (λ width enough words are met. value (isub_is_iadd _ _ _ are.x are.y))
+    also (λ width enough words are met. value (ineg_ineg _ _ are.x))
+    also (λ width enough words are met. rw (word_one (width_bits width) (least_one enough)) (value (ineg_is_inot _ _ are.x)))
+    also (λ width enough words are met. rw (word_one (width_bits width) (least_one enough)) (value (idiv_one _ _ (least_two enough) are.x)))
+    also (λ width enough words are met. value (imul_commutes _ _ _))
+    also (λ width enough words are met. value (imul_associates _ _ _ _))
+    also (λ width enough words are met. rw (word_zero (width_bits width)) (value (imul_zero _ _)))
+    also (λ width enough words are met. rw (word_one (width_bits width) (least_one enough)) (value (imul_one _ _ are.x)))
+    also (λ width enough words are met. value (imul_distributes _ _ _ _))
+    also (λ width enough words are met. rw (word_ones (width_bits width)) (value (imul_ones _ _ are.x)))
+    also (λ width enough words are met. value (imul_power_met _ _ _ (size_small width) met))
+    also (λ width enough words are met. value (imul_negated_power_met _ _ _ (size_small width) met))
+    also (λ width enough words are met. value (iand_commutes _ _ _))
+    also (λ width enough words are met. value (iand_associates _ _ _ _ are.x are.y))
+    also (λ width enough words are met. value (iand_itself _ _ are.x))
+    also (λ width enough words are met. rw (word_zero (width_bits width)) (value (iand_zero _ _ are.x)))
+    also (λ width enough words are met. rw (word_ones (width_bits width)) (value (iand_ones _ _ are.x)))
+    also (λ width enough words are met. value (ior_commutes _ _ _))
+    also (λ width enough words are met. value (ior_associates _ _ _ _ are.x are.y are.z))
+    also (λ width enough words are met. value (ior_itself _ _ are.x))
+    also (λ width enough words are met. rw (word_zero (width_bits width)) (value (ior_zero _ _ are.x)))
+    also (λ width enough words are met. value (ixor_commutes _ _ _))
+    also (λ width enough words are met. value (ixor_associates _ _ _ _ are.x are.y are.z))
+    also (λ width enough words are met. rw (word_zero (width_bits width)) (value (ixor_itself _ _ are.x)))
+    also (λ width enough words are met. rw (word_zero (width_bits width)) (value (ixor_zero _ _ are.x)))
+    also (λ width enough words are met. rw (word_ones (width_bits width)) (value (inot_is_ixor _ _ are.x)))
+    also (λ width enough words are met. value (inot_iand _ _ _ are.x are.y))
+    also (λ width enough words are met. value (iand_distributes _ _ _ _ are.x are.y are.z))
+    also (λ width enough words are met. rw (word_zero (width_bits width)) (value (iand_inot _ _ are.x)))
+    also (λ width enough words are met. rw (word_zero (width_bits width), word_one (width_bits width) (least_one enough)) (value (irem_one _ _ (least_two enough))))
+    also (λ width enough words are met. rw (word_one 1 (lit≤ tt)) (value (ieq_itself _ _)))
+    also (λ width enough words are met. value (ieq_commutes _ _ _))
+    also (λ width enough words are met. value (ine_is_inot _ _ _))
+    also (λ width enough words are met. value (ige_is_inot _ _ _))
+    also (λ width enough words are met. value (uge_is_inot _ _ _))
+    also (λ width enough words are met. rw (word_zero 1) (value (ilt_itself _ _)))
+    also (λ width enough words are met. rw (word_zero 1) (value (ult_itself _ _)))
+    also (λ width enough words are met. rw (word_zero (width_bits width)) (value (ieq_isub _ _ _ are.x are.y)))
+    also (λ width enough words are met. rw (word_zero (width_bits width), word_zero 1) (value (ult_zero _ _)))
+    also (λ width enough words are met. rw (word_zero (width_bits width), word_one (width_bits width) (least_one enough)) (value (ult_one _ _)))
+    also (λ width enough words are met. rw (word_one 1 (lit≤ tt)) (value (bcsel_true _ _ _ are.x)))
+    also (λ width enough words are met. rw (word_zero 1) (value (bcsel_false _ _ _ are.y)))
+    also (λ width enough words are met. value (bcsel_same _ _ _ are.b are.x))
+    also (λ width enough words are met. value (bcsel_inot _ _ _ _ are.b))
+    also (λ width enough words are met. value (imin_is_bcsel _ _ _ (least_one enough) are.x are.y))
+    also (λ width enough words are met. value (imax_is_bcsel _ _ _ (least_one enough) are.x are.y))
+    also (λ width enough words are met. value (umin_is_bcsel _ _ _ are.x are.y))
+    also (λ width enough words are met. value (umax_is_bcsel _ _ _ are.x are.y))
+    also (λ width enough words are met. value (udiv_power_met _ _ _ (size_small width) met))
+    also (λ width enough words are met. value (umod_power_met _ _ _ (size_small width) met))
+    also (λ width enough words are met. rw (word_zero 32) (value (ishl_zero _ _ are.x)))
+    also (λ width enough words are met. rw (word_zero 32) (value (ushr_zero _ _ are.x)))
+    also tt
