@@ -1,5 +1,5 @@
 -- Derivations: what each step makes of a term, or why it does not apply, and what all steps show.
-use Rattle.std.specs.Prelude.{ℕ, zero, suc, Bool, true, false, not, ◌&&◌, ◌||◌, List, [], ◌∷◌, ◌++◌, take, drop, length, Option, Some, None, Result, Ok, Err, is_none, nat_eq, codes, slice_get, if◌then◌else◌}
+use Rattle.std.specs.Prelude.{◌≡◌, ℕ, zero, suc, Bool, true, false, not, ◌&&◌, ◌||◌, List, [], ◌∷◌, ◌++◌, take, drop, length, Option, Some, None, Result, Ok, Err, is_none, nat_eq, codes, slice_get, if◌then◌else◌}
 use Rattle.std.specs.Cmp.Lexicographic.{pointwise}
 use Rattle.std.specs.List.{find, list_all, list_any}
 use Rattle.std.specs.Option.{option_map}
@@ -20,6 +20,8 @@ use Rattle.rule_term.specs.Rule.{Rule}
 use Rattle.rule_term.specs.Terms.{Terms}
 use Rattle.rule_term.specs.Typings.{Occurrence, occurrences, obeys, first_of, search_part, replace_part, size_of, width_lists}
 use Rattle.rule_spelling.specs.Files.{Binding, Step, Apply, Calc}
+use Rattle.law_derive.specs.declared.fault.DeriveFault.{DeriveFault}
+use Rattle.law_derive.specs.declared.fault.DeriveFault.TheVariants as fault
 use Rattle.law_derive.specs.declared.law.LawNode.{LawNode}
 use Rattle.law_derive.specs.declared.law.LawNode.TheVariants as law_node
 use Rattle.law_derive.specs.declared.node.Kind.{Kind}
@@ -278,19 +280,27 @@ step_made at (Calc path with) nodes = at_path nodes (place_at path nodes) (by_ca
 
 -- ---- a derivation
 
--- the first step that does not apply, and why; or the end is another term than the replacement
-pub data Fault : Type 0 where
-  AtStep : ℕ → StepFault → Fault
-  WrongEnd : Fault
+-- the first step that does not apply, and why
+abbrev pub fault_at : ℕ → StepFault → DeriveFault
+fault_at k NoLaw = fault.NoLaw k
+fault_at k BadPath = fault.BadPath k
+fault_at k NoMatch = fault.NoMatch k
+fault_at k CondMissing = fault.CondMissing k
 
-abbrev pub derived_on : ℕ → Result (List Node) StepFault → (List Node → Option Fault) → Option Fault
+abbrev pub derived_on : ℕ → Result (List Node) StepFault → (List Node → Option DeriveFault) → Option DeriveFault
 derived_on k (Ok nodes) others = others nodes
-derived_on k (Err fault) others = Some (AtStep k fault)
+derived_on k (Err stepped) others = Some (fault_at k stepped)
 
-abbrev pub derive_from : Setting → ℕ → List Step → List Node → Option Fault
-derive_from at k [] nodes = if same_nodes nodes (nodes_of at.rule.replace (replace_part at.rule at.widths)) then None else Some WrongEnd
+abbrev pub derive_from : Setting → ℕ → List Step → List Node → Option DeriveFault
+derive_from at k [] nodes = if same_nodes nodes (nodes_of at.rule.replace (replace_part at.rule at.widths)) then None else Some fault.WrongEnd
 derive_from at k (step ∷ steps) nodes = derived_on k (step_made at step nodes) (derive_from at (suc k) steps)
 
 -- what is wrong with a derivation, None where it leads from the search side to the replacement
-unfoldable pub derivation_fault : Setting → List Step → Option Fault
+unfoldable pub derivation_fault : Setting → List Step → Option DeriveFault
 derivation_fault at steps = derive_from at 0 steps (nodes_of at.rule.search (search_part at.rule at.widths))
+
+-- the answer tells what is wrong, or that nothing is; memory may be wanting at any time
+abbrev pub TellsFault : Option DeriveFault → Result (Unit {0}) DeriveFault → Type 0
+TellsFault found (Ok done) = found ≡ None
+TellsFault found (Err fault.OutOfMemory) = Unit {0}
+TellsFault found (Err told) = found ≡ Some told

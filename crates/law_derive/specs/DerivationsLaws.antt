@@ -17,8 +17,9 @@ use Rattle.rule_term.specs.Pieces.{Piece, VarPiece, LitPiece, AppPiece, pieces}
 use Rattle.rule_term.specs.Rule.{Rule}
 use Rattle.rule_term.specs.Typings.{Occurrence, agree, alike, is_typing, occurrences, search_part, replace_part}
 use Rattle.rule_spelling.specs.Files.{Step}
+use Rattle.law_derive.specs.declared.fault.DeriveFault.TheVariants.{WrongEnd}
 use Rattle.law_derive.specs.declared.node.Node.{Node}
-use Rattle.law_derive.specs.Derivations.{Setting, StepFault, WrongEnd, derivation_fault, derive_from, derived_on, has_size_of, has_var_size, size_of_var, standing, step_made}
+use Rattle.law_derive.specs.Derivations.{Setting, StepFault, derivation_fault, derive_from, derived_on, has_size_of, has_var_size, size_of_var, standing, step_made}
 use Rattle.law_derive.specs.LawStepLaws.{AreMetBy}
 use Rattle.law_derive.specs.Nodes.{AreTerms, nodes_of, same_nodes, values}
 use Rattle.law_derive.specs.SameLaws.{nodes_equal}

@@ -7,6 +7,8 @@
 ghost use Rattle.law_derive.specs.LawsHold.{LawsHold};
 ghost use Rattle.law_derive.specs.Sound.{DerivationsAreSound};
 
+mod check;
+mod fault;
 mod filling;
 mod law;
 mod matching;
@@ -16,6 +18,8 @@ mod same;
 mod side;
 mod table;
 
+pub use check::check_derivation;
+pub use fault::DeriveFault;
 pub use law::{Law, LawNode};
 pub use node::{Kind, Node};
 pub use table::laws;
