@@ -1,27 +1,28 @@
 -- A law read at a term makes a term of the same size and value.
 use Rattle.std.proofs.Common.{◌≡◌, ◌+◌, ◌≤◌, ℕ, Bool, true, false, List, [], ◌∷◌, ◌++◌, Option, Some, None, Ok, Err, refl, sym, ap, ◌∙◌, subst, arith, ⊎_elim, lit≤}
-use Rattle.std.specs.Prelude.{cond}
+use Rattle.std.specs.Prelude.{◌&&◌, cond}
 use Rattle.std.specs.Cmp.Lexicographic.{pointwise}
 use Rattle.std.specs.List.{list_all, list_any, find}
-use Rattle.std.proofs.lemmas.Bool.{and_parts, or_left, or_right}
+use Rattle.std.proofs.lemmas.Bool.{and_parts, false≢true, or_cases, or_left, or_right}
 use Rattle.std.proofs.lemmas.List.{append-nil}
 use Rattle.list_laws.specs.BoolLaws.{chosen}
 use Rattle.nir_ops.specs.declared.width.Width.{Width}
 use Rattle.nir_ops.specs.declared.width.Width.TheVariants.{W1, W8, W16, W32, W64}
 use Rattle.nir_ops.specs.Width.{width_bits}
 use Rattle.op_eval.specs.Calls.{same_width}
-use Rattle.op_eval.specs.Sizes.{same_width-refl, same_widths-same}
+use Rattle.op_eval.specs.Sizes.{same_width-refl, same_width-same, same_widths-same}
 use Rattle.rule_spelling.specs.Files.{Binding}
 use Rattle.law_derive.specs.declared.node.Node.{Node}
 use Rattle.law_derive.specs.Derivations.{Setting, among, are_filled, bound, by_law, complete, cond_met, from_at, from_side, is_truth, law_sizes, matched, matches_at, met, read_at, size_of_binding, size_read, to_at}
 use Rattle.law_derive.specs.FineLaws.{AreFitting, Fine, bound_grows, match_fine, none_fine}
-use Rattle.law_derive.specs.LawStepLaws.{AreMetBy, condition_met, filled_stands, found_each, found_more, letters_are_words, letters_in, same_filled, side_is}
+use Rattle.law_derive.specs.LawStepLaws.{AreMetBy, condition_met, filled_fits, filled_stands, found_each, found_more, letters_are_words, letters_in, same_filled, side_is}
+use Rattle.law_derive.specs.Fit.{nodes_fit}
 use Rattle.law_derive.specs.LawTable.{Law, left_at, right_at}
 use Rattle.law_derive.specs.LawsHold.{IsLaw, least_bits}
 use Rattle.law_derive.specs.Matching.{Filling, filled, match_side}
 use Rattle.law_derive.specs.MatchingLaws.{match_sound}
 use Rattle.law_derive.specs.Nodes.{AreTerms, roots, values}
-use Rattle.law_derive.specs.SidesLaws.{law_fits, law_fits_at, part_fits, side_fits, terms_from_test}
+use Rattle.law_derive.specs.SidesLaws.{are_terms, law_fits, law_fits_at, part_fits, side_fits, terms_from_test}
 use Rattle.law_derive.specs.StandingLaws.{IsTermAt}
 
 -- a term of the same size, and of the same value where the words of the variables meet the conditions
@@ -74,15 +75,12 @@ enough_bits false W64 is = lit≤ tt
 
 -- ---- the sides of a law that fits
 
-fits_at : (law : Law) → law_fits law ≡ true → (width : Width) → law_fits_at law width ≡ true
-fits_at law fits W1 = (and_parts (law_fits_at law W1) _ fits).0
-fits_at law fits W8 = (and_parts (law_fits_at law W8) _ (and_parts (law_fits_at law W1) _ fits).1).0
-fits_at law fits W16 = (and_parts (law_fits_at law W16) _ (and_parts (law_fits_at law W8) _ (and_parts (law_fits_at law W1) _ fits).1).1).0
-fits_at law fits W32 =
-    (and_parts (law_fits_at law W32) _ (and_parts (law_fits_at law W16) _ (and_parts (law_fits_at law W8) _ (and_parts (law_fits_at law W1) _ fits).1).1).1).0
-fits_at law fits W64 =
-    (and_parts (law_fits_at law W64) _
-    (and_parts (law_fits_at law W32) _ (and_parts (law_fits_at law W16) _ (and_parts (law_fits_at law W8) _ (and_parts (law_fits_at law W1) _ fits).1).1).1).1).0
+passes_among : (test : Width → Bool) (list : List Width) (width : Width) → list_all test list ≡ true → list_any (same_width width) list ≡ true → test width ≡ true
+passes_among test [] width all any = absurd (false≢true any)
+passes_among test (first ∷ list) width all any =
+    let parts = and_parts (test first) (list_all test list) all in
+    ⊎_elim (λ here. ap test (same_width-same width first here) ∙ parts.0) (λ behind. passes_among test list width parts.1 behind)
+    (or_cases (same_width width first) (list_any (same_width width) list) any)
 
 parts_fit : (width : Width) (side : List Node) → list_all (λ (part : Node). part_fits width part.kind part.width) side ≡ true → AreFitting width side
 parts_fit width [] is = tt
@@ -92,25 +90,27 @@ parts_fit width (part ∷ side) is =
 
 record SideFits (width : Width) (side : List Node) : Type 0 where
   one : AreTerms 1 side
+  fit : nodes_fit side ≡ true
   fitting : AreFitting width side
 
 side_from : (width : Width) (side : List Node) → side_fits width side ≡ true → SideFits width side
 side_from width side is =
-    let both = and_parts _ (list_all (λ (p : Node). part_fits width p.kind p.width) side) is in
-    record { one = terms_from_test 1 side both.0; fitting = parts_fit width side both.1 }
+    let both = and_parts (are_terms 1 side) (nodes_fit side && list_all (λ (p : Node). part_fits width p.kind p.width) side) is in
+    let parts = and_parts (nodes_fit side) (list_all (λ (p : Node). part_fits width p.kind p.width) side) both.1 in
+    record { one = terms_from_test 1 side both.0; fit = parts.0; fitting = parts_fit width side parts.1 }
 
 record LawFits (law : Law) (rev : Bool) (width : Width) : Type 0 where
   from : SideFits width (from_at law rev width)
   to : SideFits width (to_at law rev width)
   sizes : roots (from_at law rev width) ≡ roots (to_at law rev width)
 
-law_from : (law : Law) (rev : Bool) (width : Width) → law_fits law ≡ true → LawFits law rev width
+law_from : (law : Law) (rev : Bool) (width : Width) → law_fits_at law width ≡ true → LawFits law rev width
 law_from law false width fits =
-    let both = and_parts (side_fits width (left_at law width)) _ (fits_at law fits width) in
+    let both = and_parts (side_fits width (left_at law width)) _ fits in
     let right = and_parts (side_fits width (right_at law width)) (pointwise same_width (roots (left_at law width)) (roots (right_at law width))) both.1 in
     record { from = side_from width (left_at law width) both.0; to = side_from width (right_at law width) right.0; sizes = same_widths-same _ _ right.1 }
 law_from law true width fits =
-    let both = and_parts (side_fits width (left_at law width)) _ (fits_at law fits width) in
+    let both = and_parts (side_fits width (left_at law width)) _ fits in
     let right = and_parts (side_fits width (right_at law width)) (pointwise same_width (roots (left_at law width)) (roots (right_at law width))) both.1 in
     record { from = side_from width (right_at law width) right.0; to = side_from width (left_at law width) both.0; sizes = sym (same_widths-same _ _ right.1) }
 
@@ -129,15 +129,16 @@ none_rest [] are = refl
 none_rest (node ∷ rest) are = absurd are
 
 module _ (at : Setting) (law : Law) (holds : IsLaw law) (fits : law_fits law ≡ true) (rev : Bool) (bindings : List Binding) (term part : List Node) (stands : IsTermAt at term) where
-  used : (width : Width) (start filling : Filling) → least_bits law ≤ width_bits width → match_side (from_at law rev width) term [] ≡ Some start
+  used : (width : Width) (start filling : Filling) → list_any (same_width width) (law_sizes law) ≡ true → match_side (from_at law rev width) term [] ≡ Some start
       → bound at law width bindings start ≡ Some filling → are_filled filling (to_at law rev width) ≡ true → cond_met at law.cond filling ≡ true
       → Keeps at term (filled filling (to_at law rev width))
-  used width start filling enough found given full met =
-      let sides = law_from law rev width fits in
+  used width start filling sized found given full met =
+      let sides = law_from law rev width (passes_among (law_fits_at law) (law_sizes law) width fits sized) in
+      let enough = enough_bits law.bit width sized in
       let e : 1 ≡ 1 + 0 = omega arith in
       let one : AreTerms (1 + 0) term = subst (λ n. AreTerms n term) e stands.one in
       let matched = match_sound (from_at law rev width) start 0 1 term [] sides.from.one one found in
-      let start_fine = match_fine at width start (from_at law rev width) sides.from.fitting 0 1 term [] sides.from.one one stands.stand (none_fine at width) found in
+      let start_fine = match_fine at width start (from_at law rev width) sides.from.fitting 0 1 term [] sides.from.one one stands.stand stands.fit (none_fine at width) found in
       let grows = bound_grows at law width bindings start filling given start_fine in
       let whole : term ≡ filled filling (from_at law rev width) =
       matched.whole ∙ ap (λ rest. filled start (from_at law rev width) ++ rest) (none_rest matched.rest matched.terms) ∙ append-nil (filled start (from_at law rev width))
@@ -150,6 +151,7 @@ module _ (at : Setting) (law : Law) (holds : IsLaw law) (fits : law_fits law ≡
         stands = record {
           one = (to_is []).terms;
           stand = filled_stands at width filling grows.fine (to_at law rev width) sides.to.fitting to_found;
+          fit = filled_fits at width filling grows.fine 1 (to_at law rev width) sides.to.one sides.to.fitting to_found sides.to.fit;
         };
         sizes = (to_is []).sizes ∙ sym sides.sizes ∙ sym (from_is []).sizes ∙ ap roots (sym whole);
         same = λ words are.
@@ -157,28 +159,28 @@ module _ (at : Setting) (law : Law) (holds : IsLaw law) (fits : law_fits law ≡
             ∙ ap (λ nodes. values nodes words) (sym whole);
       }
 
-  made_by : (width : Width) (start : Filling) (own : Option Filling) → least_bits law ≤ width_bits width → match_side (from_at law rev width) term [] ≡ Some start
+  made_by : (width : Width) (start : Filling) (own : Option Filling) → list_any (same_width width) (law_sizes law) ≡ true → match_side (from_at law rev width) term [] ≡ Some start
       → bound at law width bindings start ≡ own → complete at law rev width own ≡ Ok part → Keeps at term part
-  made_by width start None enough found given is = absurd cc
-  made_by width start (Some filling) enough found given is =
+  made_by width start None sized found given is = absurd cc
+  made_by width start (Some filling) sized found given is =
       ⊎_elim
       (λ full.
       ⊎_elim
-      (λ meets. let e : filled filling (to_at law rev width) ≡ part = cc in subst (Keeps at term) e (used width start filling enough found given full.0 meets.0))
+      (λ meets. let e : filled filling (to_at law rev width) ≡ part = cc in subst (Keeps at term) e (used width start filling sized found given full.0 meets.0))
       (λ not_met. absurd (let never = not_met.1 in cc))
       (chosen (cond_met at law.cond filling) (Ok (filled filling (to_at law rev width))) (Err _) (Ok part) full.1))
       (λ not_full. absurd (let never = not_full.1 in cc))
       (chosen (are_filled filling (to_at law rev width)) (met at law rev width filling) (Err _) (Ok part) is)
 
-  matched_by : (width : Width) (own : Option Filling) → least_bits law ≤ width_bits width → match_side (from_at law rev width) term [] ≡ own
+  matched_by : (width : Width) (own : Option Filling) → list_any (same_width width) (law_sizes law) ≡ true → match_side (from_at law rev width) term [] ≡ own
       → matched at law rev bindings width own ≡ Ok part → Keeps at term part
-  matched_by width None enough found is = absurd cc
-  matched_by width (Some start) enough found is = made_by width start (bound at law width bindings start) enough found refl is
+  matched_by width None sized found is = absurd cc
+  matched_by width (Some start) sized found is = made_by width start (bound at law width bindings start) sized found refl is
 
   read_by : (own : Option Width) → size_read at law rev bindings term ≡ own → read_at at law rev bindings term own ≡ Ok part → Keeps at term part
   read_by None sized is = absurd cc
   read_by (Some width) sized is =
-      matched_by width (match_side (from_at law rev width) term []) (enough_bits law.bit width (size_among at law rev bindings term width sized)) refl is
+      matched_by width (match_side (from_at law rev width) term []) (size_among at law rev bindings term width sized) refl is
 
   pub by_law_keeps : by_law at law rev bindings term ≡ Ok part → Keeps at term part
   by_law_keeps is = read_by (size_read at law rev bindings term) refl is

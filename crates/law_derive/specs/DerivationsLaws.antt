@@ -1,5 +1,5 @@
 -- A derivation in which nothing is wrong shows that both sides are equal at the typing, for all values that meet the conditions.
-use Rattle.std.proofs.Common.{◌≡◌, ◌<◌, ◌^◌, ℕ, suc, Bool, true, List, [], ◌∷◌, ◌++◌, length, Option, Some, None, Ok, Err, Result, refl, sym, ap, ◌∙◌, subst, append_assoc, ⊎_elim}
+use Rattle.std.proofs.Common.{◌≡◌, ◌+◌, ◌<◌, ◌^◌, ℕ, suc, Bool, true, List, [], ◌∷◌, ◌++◌, length, Option, Some, None, Ok, Err, Result, refl, sym, ap, ◌∙◌, subst, append_assoc, ⊎_elim}
 use Rattle.std.specs.Prelude.{◌&&◌, ◌||◌, not, nat_eq}
 use Rattle.std.specs.List.{AllByRecursion, list_all, list_any, find, slice_index_or}
 use Rattle.std.specs.Option.{option_map}
@@ -11,22 +11,23 @@ use Rattle.nir_ops.specs.Opcodes.{op_info}
 use Rattle.nir_ops.specs.Width.{width_bits}
 use Rattle.op_eval.specs.Calls.{same_width}
 use Rattle.op_eval.specs.Sizes.{same_width-same, same_width-refl}
-use Rattle.rule_term.specs.Formed.{may_stand, search_piece_formed, replace_piece_formed, literal_formed}
+use Rattle.rule_term.specs.Formed.{IsFormed, may_stand, search_piece_formed, replace_piece_formed, literal_formed}
 use Rattle.rule_term.specs.Holds.{are_met, are_words, is_met, is_word}
 use Rattle.rule_term.specs.Pieces.{Piece, VarPiece, LitPiece, AppPiece, pieces}
 use Rattle.rule_term.specs.Rule.{Rule}
-use Rattle.rule_term.specs.Typings.{Occurrence, agree, alike, is_typing, occurrences, search_part, replace_part}
+use Rattle.rule_term.specs.Typings.{Occurrence, agree, alike, first_of, is_typing, obeys, occurrences, replace_part, search_part, size_of}
 use Rattle.rule_spelling.specs.Files.{Step}
 use Rattle.law_derive.specs.declared.fault.DeriveFault.TheVariants.{WrongEnd}
 use Rattle.law_derive.specs.declared.node.Node.{Node}
-use Rattle.law_derive.specs.Derivations.{Setting, StepFault, derivation_fault, derive_from, derived_on, has_size_of, has_var_size, size_of_var, standing, step_made}
+use Rattle.law_derive.specs.Derivations.{Setting, StepFault, derivation_fault, derive_from, derived_on, has_size_of, has_var_size, piece_formed, size_of_var, standing, step_made}
+use Rattle.law_derive.specs.FitLaws.{fit_nodes_of, pieces_sources}
 use Rattle.law_derive.specs.LawStepLaws.{AreMetBy}
 use Rattle.law_derive.specs.Nodes.{AreTerms, nodes_of, same_nodes, values}
 use Rattle.law_derive.specs.SameLaws.{nodes_equal}
 use Rattle.law_derive.specs.Sound.{DerivationsAreSound}
 use Rattle.law_derive.specs.StandingLaws.{IsTermAt, nodes_stand}
 use Rattle.law_derive.specs.StepsLaws.{step_keeps}
-use Rattle.law_derive.specs.TermsLaws.{has_sources, have_terms, values_are}
+use Rattle.law_derive.specs.TermsLaws.{have_terms, values_are}
 
 -- ---- sizes of variables
 
@@ -113,27 +114,25 @@ words_met rule widths words typing are met = record {
 
 -- ---- derivations
 
-search_sources : (list : List Piece) → list_all search_piece_formed list ≡ true → list_all has_sources list ≡ true
-search_sources [] formed = refl
-search_sources (VarPiece var constant size cond ∷ list) formed = search_sources list formed
-search_sources (LitPiece value boolean ∷ list) formed =
-    search_sources list (and_parts (literal_formed value boolean) (list_all search_piece_formed list) formed).1
-search_sources (AppPiece op size once sources ∷ list) formed =
+search_formed : (list : List Piece) → list_all search_piece_formed list ≡ true → list_all piece_formed list ≡ true
+search_formed [] formed = refl
+search_formed (VarPiece var constant size cond ∷ list) formed = search_formed list formed
+search_formed (LitPiece value boolean ∷ list) formed =
+    search_formed list (and_parts (literal_formed value boolean) (list_all search_piece_formed list) formed).1
+search_formed (AppPiece op size once sources ∷ list) formed =
     let parts = and_parts (may_stand op && nat_eq sources (length (op_info op).inputs)) (list_all search_piece_formed list) formed in
-    and_from (nat_eq sources (length (op_info op).inputs)) (list_all has_sources list) (and_parts (may_stand op) (nat_eq sources (length (op_info op).inputs)) parts.0).1
-    (search_sources list parts.1)
+    and_from (may_stand op && nat_eq sources (length (op_info op).inputs)) (list_all piece_formed list) parts.0 (search_formed list parts.1)
 
-replace_sources : (vars : ℕ) (list : List Piece) → list_all (replace_piece_formed vars) list ≡ true → list_all has_sources list ≡ true
-replace_sources vars [] formed = refl
-replace_sources vars (VarPiece var constant size cond ∷ list) formed =
-    replace_sources vars list (and_parts (replace_piece_formed vars (VarPiece var constant size cond)) (list_all (replace_piece_formed vars) list) formed).1
-replace_sources vars (LitPiece value boolean ∷ list) formed =
-    replace_sources vars list (and_parts (literal_formed value boolean) (list_all (replace_piece_formed vars) list) formed).1
-replace_sources vars (AppPiece op size once sources ∷ list) formed =
+replace_formed : (vars : ℕ) (list : List Piece) → list_all (replace_piece_formed vars) list ≡ true → list_all piece_formed list ≡ true
+replace_formed vars [] formed = refl
+replace_formed vars (VarPiece var constant size cond ∷ list) formed =
+    replace_formed vars list (and_parts (replace_piece_formed vars (VarPiece var constant size cond)) (list_all (replace_piece_formed vars) list) formed).1
+replace_formed vars (LitPiece value boolean ∷ list) formed =
+    replace_formed vars list (and_parts (literal_formed value boolean) (list_all (replace_piece_formed vars) list) formed).1
+replace_formed vars (AppPiece op size once sources ∷ list) formed =
     let parts = and_parts (may_stand op && nat_eq sources (length (op_info op).inputs) && not once) (list_all (replace_piece_formed vars) list) formed in
     let own = and_parts (may_stand op && nat_eq sources (length (op_info op).inputs)) (not once) parts.0 in
-    and_from (nat_eq sources (length (op_info op).inputs)) (list_all has_sources list) (and_parts (may_stand op) (nat_eq sources (length (op_info op).inputs)) own.0).1
-    (replace_sources vars list parts.1)
+    and_from (may_stand op && nat_eq sources (length (op_info op).inputs)) (list_all piece_formed list) own.0 (replace_formed vars list parts.1)
 
 sized_all : (at : Setting) (list : List Occurrence) → AllByRecursion (HasSize at) list → list_all (has_var_size at) list ≡ true
 sized_all at [] all = refl
@@ -162,17 +161,32 @@ module _ (at : Setting) where
   derived_keeps (step ∷ steps) k nodes stands none words are =
       one_step step steps (derived_keeps steps) k nodes stands (step_made at step nodes) refl none words are
 
+-- the search side of a rule at a typing
+pub search_is : (rule : Rule) (widths : List Width) → IsFormed rule → is_typing rule widths ≡ true
+    → IsTermAt (record { rule = rule; widths = widths }) (nodes_of rule.search (search_part rule widths))
+unfolding is_typing
+search_is rule widths formed typing =
+    let at : Setting = record { rule = rule; widths = widths } in
+    let sizes : List Width = search_part rule widths in
+    let own = search_formed (pieces rule.search) formed.search in
+    let all = and_parts _ (agree (occurrences rule.search sizes ++ occurrences rule.replace (replace_part rule widths))) typing in
+    let sides = and_parts _ (same_width (first_of sizes) (first_of (replace_part rule widths))) all.0 in
+    let each = and_parts (nat_eq (length widths) (size_of rule.search + size_of rule.replace) && obeys rule.search sizes) (obeys rule.replace (replace_part rule widths)) sides.0 in
+    let obey = and_parts (nat_eq (length widths) (size_of rule.search + size_of rule.replace)) (obeys rule.search sizes) each.0 in
+    record {
+      one = subst (λ n. AreTerms n (nodes_of rule.search sizes)) formed.one_search (have_terms rule.search sizes (pieces_sources (pieces rule.search) own));
+      stand = nodes_stand at rule.search sizes (sized_all at (standing at) (sizes_known rule widths typing));
+      fit = fit_nodes_of rule.search sizes own obey.1;
+    }
+
 -- both sides are equal at the typing
 pub derivations_are_sound : DerivationsAreSound
 unfolding derivation_fault
 derivations_are_sound rule widths steps formed typing none words count are met =
     let at : Setting = record { rule = rule; widths = widths } in
-    let search = search_sources (pieces rule.search) formed.search in
-    let replace = replace_sources rule.vars (pieces rule.replace) formed.replace in
-    let stands : IsTermAt at (nodes_of rule.search (search_part rule widths)) = record {
-      one = subst (λ n. AreTerms n (nodes_of rule.search (search_part rule widths))) formed.one_search (have_terms rule.search (search_part rule widths) search);
-      stand = nodes_stand at rule.search (search_part rule widths) (sized_all at (standing at) (sizes_known rule widths typing));
-    } in
+    let search = pieces_sources (pieces rule.search) (search_formed (pieces rule.search) formed.search) in
+    let replace = pieces_sources (pieces rule.replace) (replace_formed rule.vars (pieces rule.replace) formed.replace) in
+    let stands = search_is rule widths formed typing in
     sym (values_are words rule.search (search_part rule widths) search)
     ∙ derived_keeps at steps 0 (nodes_of rule.search (search_part rule widths)) stands none words (words_met rule widths words typing are met)
     ∙ values_are words rule.replace (replace_part rule widths) replace

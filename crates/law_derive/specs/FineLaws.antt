@@ -13,6 +13,8 @@ use Rattle.law_derive.specs.declared.node.Kind.{Kind}
 use Rattle.law_derive.specs.declared.node.Kind.TheVariants.{App, Var, Lit}
 use Rattle.law_derive.specs.declared.node.Node.{Node}
 use Rattle.law_derive.specs.Derivations.{Setting, bound, bound_letter, bound_others, expr_nodes, has_letter, letter_named, letter_size, with_letter}
+use Rattle.law_derive.specs.Fit.{nodes_fit}
+use Rattle.law_derive.specs.FitLaws.{fit_drop, fit_take}
 use Rattle.law_derive.specs.LawTable.{Law}
 use Rattle.law_derive.specs.Matching.{Filling, found, match_kind, match_side, taken}
 use Rattle.law_derive.specs.MatchingLaws.{Extends, first_root, other_letter, some_is, terms_behind, then_is}
@@ -63,30 +65,32 @@ module _ (at : Setting) (width : Width) (more : Filling) where
   -- what is known behind the first node
   abbrev FineBehind : List Node → ℕ → Type 0
   FineBehind side others =
-      (k : ℕ) (nodes : List Node) (filling : Filling) → AreTerms k side → AreTerms (k + others) nodes → AllByRecursion (NodeStands at) nodes → Fine at width filling
-      → match_side side nodes filling ≡ Some more → Fine at width more
+      (k : ℕ) (nodes : List Node) (filling : Filling) → AreTerms k side → AreTerms (k + others) nodes → AllByRecursion (NodeStands at) nodes → nodes_fit nodes ≡ true
+      → Fine at width filling → match_side side nodes filling ≡ Some more → Fine at width more
 
   fine_step : (part node : Node) (side : List Node) (k others : ℕ) (nodes : List Node) (filling : Filling) → FineBehind side others
       → (kind : Kind) → part.kind ≡ kind → part_fits width kind part.width ≡ true → AreTerms (sources_of kind + k) side → AreTerms (suc k + others) (node ∷ nodes)
-      → AllByRecursion (NodeStands at) (node ∷ nodes) → Fine at width filling
+      → AllByRecursion (NodeStands at) (node ∷ nodes) → nodes_fit (node ∷ nodes) ≡ true → Fine at width filling
       → match_kind kind part node nodes filling (match_side side) ≡ Some more → Fine at width more
-  fine_step part node side k others nodes filling behind (App op) is fits own are stand fine matched =
+  fine_step part node side k others nodes filling behind (App op) is fits own are stand fit fine matched =
       ⊎_elim
       (λ same.
       let equal : part ≡ node = node_equal part node same.0 in
       let kind : node.kind ≡ App op = sym (ap (λ (n : Node). n.kind) equal) ∙ is in
-      behind (sources_of (App op) + k) nodes filling own (terms_behind (App op) k others node nodes kind are) stand.1 fine same.1)
+      behind (sources_of (App op) + k) nodes filling own (terms_behind (App op) k others node nodes kind are) stand.1
+      (fit_drop 1 (node ∷ nodes) fit) fine same.1)
       (λ apart. absurd (let never = apart.1 in cc))
       (chosen (same_node part node) (match_side side nodes filling) None (Some more) matched)
-  fine_step part node side k others nodes filling behind (Lit word) is fits own are stand fine matched =
+  fine_step part node side k others nodes filling behind (Lit word) is fits own are stand fit fine matched =
       ⊎_elim
       (λ same.
       let equal : part ≡ node = node_equal part node same.0 in
       let kind : node.kind ≡ Lit word = sym (ap (λ (n : Node). n.kind) equal) ∙ is in
-      behind (sources_of (Lit word) + k) nodes filling own (terms_behind (Lit word) k others node nodes kind are) stand.1 fine same.1)
+      behind (sources_of (Lit word) + k) nodes filling own (terms_behind (Lit word) k others node nodes kind are) stand.1
+      (fit_drop 1 (node ∷ nodes) fit) fine same.1)
       (λ apart. absurd (let never = apart.1 in cc))
       (chosen (same_node part node) (match_side side nodes filling) None (Some more) matched)
-  fine_step part node side k others nodes filling behind (Var letter) is fits own are stand fine matched =
+  fine_step part node side k others nodes filling behind (Var letter) is fits own are stand fit fine matched =
       ⊎_elim
       (λ same.
       let sized : part.width ≡ node.width = same_width-same part.width node.width same.0 in
@@ -97,22 +101,26 @@ module _ (at : Setting) (width : Width) (more : Filling) where
       let g : sources_of (Var letter) + k ≡ k = omega arith in
       let parts = terms_split 1 (k + others) (node ∷ nodes) (subst (λ n. AreTerms n (node ∷ nodes)) e are) in
       let stands : StandsAt at width letter term = record {
-        stands = record { one = parts.0; stand = all_take (NodeStands at) (extent 1 (node ∷ nodes)) (node ∷ nodes) stand };
+        stands = record {
+          one = parts.0;
+          stand = all_take (NodeStands at) (extent 1 (node ∷ nodes)) (node ∷ nodes) stand;
+          fit = fit_take (extent 1 (node ∷ nodes)) 1 (node ∷ nodes) parts.0 fit;
+        };
         sized = first_root node nodes parts.0 ∙ ap (λ w. w ∷ []) (sym sized ∙ letter_sized);
       } in
       behind k (behind_first (node ∷ nodes)) found_some.0 (subst (λ n. AreTerms n side) g own) parts.1
-      (all_drop (NodeStands at) (extent 1 (node ∷ nodes)) (node ∷ nodes) stand)
+      (all_drop (NodeStands at) (extent 1 (node ∷ nodes)) (node ∷ nodes) stand) (fit_drop (extent 1 (node ∷ nodes)) (node ∷ nodes) fit)
       (taken_fine at width letter term filling found_some.0 (found letter filling) stands fine found_some.1) found_some.2)
       (λ apart. absurd (let never = apart.1 in cc))
       (chosen (same_width part.width node.width) _ None (Some more) matched)
 
   pub match_fine : (side : List Node) → AreFitting width side → (others : ℕ) → FineBehind side others
-  match_fine [] fitting others zero nodes filling own are stand fine is = subst (Fine at width) (some_is filling more is) fine
-  match_fine [] fitting others (suc k) nodes filling own are stand fine is = absurd own
-  match_fine (part ∷ side) fitting others zero nodes filling own are stand fine is = absurd own
-  match_fine (part ∷ side) fitting others (suc k) [] filling own are stand fine is = absurd cc
-  match_fine (part ∷ side) fitting others (suc k) (node ∷ nodes) filling own are stand fine is =
-      fine_step part node side k others nodes filling (match_fine side fitting.1 others) part.kind refl fitting.0 own are stand fine is
+  match_fine [] fitting others zero nodes filling own are stand fit fine is = subst (Fine at width) (some_is filling more is) fine
+  match_fine [] fitting others (suc k) nodes filling own are stand fit fine is = absurd own
+  match_fine (part ∷ side) fitting others zero nodes filling own are stand fit fine is = absurd own
+  match_fine (part ∷ side) fitting others (suc k) [] filling own are stand fit fine is = absurd cc
+  match_fine (part ∷ side) fitting others (suc k) (node ∷ nodes) filling own are stand fit fine is =
+      fine_step part node side k others nodes filling (match_fine side fitting.1 others) part.kind refl fitting.0 own are stand fit fine is
 
 -- ---- bindings
 

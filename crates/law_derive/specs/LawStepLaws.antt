@@ -1,9 +1,9 @@
 -- A law at a term keeps the size and the value of the term.
 use denote.Enum.Bare.{same_true}
-use Rattle.std.proofs.Common.{◌≡◌, ◌<◌, ◌^◌, ℕ, zero, suc, Bool, true, List, [], ◌∷◌, ◌++◌, length, Option, Some, None, refl, sym, ap, ◌∙◌, subst, arith, ⊎_elim}
+use Rattle.std.proofs.Common.{◌≡◌, ◌+◌, ◌<◌, ◌^◌, ℕ, zero, suc, Bool, true, List, [], ◌∷◌, ◌++◌, length, Option, Some, None, refl, sym, ap, ◌∙◌, subst, arith, ⊎_elim}
 use Rattle.std.specs.Prelude.{nat_eq, nat_lt, is_none, not}
 use Rattle.std.specs.List.{AllByRecursion, list_any, slice_index_or}
-use Rattle.std.proofs.lemmas.Bool.{and_parts, eqb-true, or_cases, false≢true, ltb-true}
+use Rattle.std.proofs.lemmas.Bool.{and_from, and_parts, eqb-true, or_cases, false≢true, ltb-true}
 use Rattle.std.proofs.lemmas.Nat.{pow_pos}
 use Rattle.std.specs.Option.{unwrap_or}
 use Rattle.list_laws.specs.AllLaws.{all_append, all_both}
@@ -21,10 +21,12 @@ use Rattle.law_derive.specs.declared.node.Kind.TheVariants.{App, Var, Lit}
 use Rattle.law_derive.specs.declared.node.Node.{Node}
 use Rattle.law_derive.specs.Derivations.{Setting, are_filled, asks, cond_met, is_cond, is_filled, kind_meets, letter_size, size_of_var, standing, term_meets}
 use Rattle.law_derive.specs.FineLaws.{AreFitting, Fine}
+use Rattle.law_derive.specs.Fit.{kind_fits, nodes_fit}
+use Rattle.law_derive.specs.FitLaws.{fit_append}
 use Rattle.law_derive.specs.LawsHold.{AreWords, word_of}
 use Rattle.law_derive.specs.Matching.{Filling, filled, filled_part, found}
 use Rattle.law_derive.specs.MatchingLaws.{Extends, LetterStands, LettersStand, LetterValued, LettersValued, SameValues, filled_is}
-use Rattle.law_derive.specs.Nodes.{AreTerms, roots, values, with_root, with_value}
+use Rattle.law_derive.specs.Nodes.{AreTerms, roots, sources_of, values, with_root, with_value}
 use Rattle.law_derive.specs.NodesLaws.{count_values}
 use Rattle.law_derive.specs.SidesLaws.{part_fits}
 use Rattle.law_derive.specs.StandingLaws.{KindStands, NodeStands}
@@ -234,6 +236,29 @@ module _ (at : Setting) (width : Width) (filling : Filling) (fine : Fine at widt
   filled_stands [] fitting are = tt
   filled_stands (part ∷ side) fitting are =
       all_append (NodeStands at) (filled_part filling part.kind part) (filled filling side) (part_stands part.kind part refl fitting.0 are.0) (filled_stands side fitting.1 are.1)
+
+  part_filled_fits : (kind : Kind) (part : Node) (side : List Node) → part.kind ≡ kind → IsFound filling kind → roots (filled filling side) ≡ roots side
+      → kind_fits part.width kind (roots side) ≡ true → nodes_fit (filled filling side) ≡ true → nodes_fit (filled_part filling kind part ++ filled filling side) ≡ true
+  part_filled_fits (Var letter) part side own is sizes fits rest =
+      let stands = (fine letter is.0 is.1).stands in
+      subst (λ front. nodes_fit (front ++ filled filling side) ≡ true) (ap (λ (o : Option (List Node)). unwrap_or o []) (sym is.1))
+      (fit_append 1 is.0 (filled filling side) stands.one stands.fit rest)
+  part_filled_fits (App op) part side own is sizes fits rest =
+      and_from (kind_fits part.width part.kind (roots (filled filling side))) (nodes_fit (filled filling side))
+      ((λ i. kind_fits part.width (own i) (sizes i)) ∙ fits) rest
+  part_filled_fits (Lit word) part side own is sizes fits rest =
+      and_from (kind_fits part.width part.kind (roots (filled filling side))) (nodes_fit (filled filling side))
+      ((λ i. kind_fits part.width (own i) (sizes i)) ∙ fits) rest
+
+  -- a side that fits does so with terms of the sizes of its letters
+  pub filled_fits : (k : ℕ) (side : List Node) → AreTerms k side → AreFitting width side → AreFound filling side → nodes_fit side ≡ true
+      → nodes_fit (filled filling side) ≡ true
+  filled_fits k [] terms fitting are fit = refl
+  filled_fits zero (part ∷ side) terms fitting are fit = absurd terms
+  filled_fits (suc k) (part ∷ side) terms fitting are fit =
+      let both = and_parts (kind_fits part.width part.kind (roots side)) (nodes_fit side) fit in
+      let behind = filled_is [] (letters_in [] filling) filling side (sources_of part.kind + k) terms (letters_stand side fitting.1 are.1) (letters_valued [] side fitting.1) in
+      part_filled_fits part.kind part side refl are.0 behind.sizes both.0 (filled_fits (sources_of part.kind + k) side terms fitting.1 are.1 both.1)
 
   -- a side with terms for its letters
   pub side_is : (words : List ℕ) (side : List Node) → AreTerms 1 side → AreFitting width side → AreFound filling side

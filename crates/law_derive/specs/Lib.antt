@@ -1,7 +1,10 @@
 pub mod ByLawLaws
+pub mod Calculations
 pub mod Derivations
 pub mod DerivationsLaws
 pub mod FineLaws
+pub mod Fit
+pub mod FitLaws
 pub mod LawStepLaws
 pub mod LawTable
 pub mod LawsHold

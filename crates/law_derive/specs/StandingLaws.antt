@@ -5,7 +5,8 @@ use Rattle.std.specs.List.{AllByRecursion, list_all}
 use Rattle.std.specs.Option.{option_map}
 use Rattle.std.proofs.lemmas.Bool.{and_from, and_parts, eqb-true}
 use Rattle.std.proofs.lemmas.List.{take-append-drop}
-use Rattle.list_laws.specs.AllLaws.{all_append, all_back, all_front, passes_append}
+use Rattle.std.proofs.lemmas.Nat.{pow_pos}
+use Rattle.list_laws.specs.AllLaws.{all_append, all_each, all_back, all_front, passes_append}
 use Rattle.list_laws.specs.BoolLaws.{chosen}
 use Rattle.nir_ops.specs.declared.width.Width.{Width}
 use Rattle.nir_ops.specs.Opcodes.{op_info}
@@ -20,9 +21,13 @@ use Rattle.rule_term.specs.Typings as typing
 use Rattle.law_derive.specs.declared.node.Kind.{Kind}
 use Rattle.law_derive.specs.declared.node.Kind.TheVariants.{App, Var, Lit}
 use Rattle.law_derive.specs.declared.node.Node.{Node}
+use Rattle.law_derive.specs.Calculations.{IsComputable}
 use Rattle.law_derive.specs.Derivations.{Setting, expr_nodes, has_size_of, has_var_size, is_expr, is_expr_typing, is_size, only, piece_formed, size_of_var}
+use Rattle.law_derive.specs.Fit.{nodes_fit}
+use Rattle.law_derive.specs.FitLaws.{fit_nodes_of, pieces_sources}
 use Rattle.law_derive.specs.Nodes.{AreTerms, nodes_of, roots}
-use Rattle.law_derive.specs.TermsLaws.{has_sources, have_terms, roots_are}
+use Rattle.law_derive.specs.TermsLaws.{have_terms, roots_are}
+use Rattle.law_derive.specs.WordsLaws.{KindIsWord, NodeIsWord}
 
 -- a variable of the rule at its size, or a word of the size
 abbrev pub KindStands : Setting → Width → Kind → Type 0
@@ -37,6 +42,7 @@ NodeStands at node = KindStands at node.width node.kind
 pub record IsTermAt (at : Setting) (nodes : List Node) : Type 0 where
   pub one : AreTerms 1 nodes
   pub stand : AllByRecursion (NodeStands at) nodes
+  pub fit : nodes_fit nodes ≡ true
 
 module _ {X : Type 0} (P : X → Type 0) (n : ℕ) (list : List X) (all : AllByRecursion P list) where
   pub all_take : AllByRecursion P (take n list)
@@ -44,6 +50,21 @@ module _ {X : Type 0} (P : X → Type 0) (n : ℕ) (list : List X) (all : AllByR
 
   pub all_drop : AllByRecursion P (drop n list)
   all_drop = all_back P (take n list) (drop n list) (subst (AllByRecursion P) (sym (take-append-drop n list)) all)
+
+-- ---- terms that can be computed
+
+kind_is_word : (at : Setting) (width : Width) (kind : Kind) → KindStands at width kind → KindIsWord [] width kind
+kind_is_word at width (App op) stands = tt
+kind_is_word at width (Var var) stands = pow_pos (width_bits width)
+kind_is_word at width (Lit word) stands = stands
+
+-- a term over the variables of the rule can be computed
+pub computable : (at : Setting) (nodes : List Node) → IsTermAt at nodes → IsComputable nodes
+computable at nodes is = record {
+  one = is.one;
+  fit = is.fit;
+  words = all_each (NodeStands at) (NodeIsWord []) (λ node stands. kind_is_word at node.width node.kind stands) nodes is.stand;
+}
 
 -- ---- occurrences and nodes
 
@@ -77,17 +98,6 @@ only_is [] widths is = cc
 only_is (own ∷ []) widths is = let e : own ≡ widths = cc in ap (λ w. w ∷ []) e
 only_is (own ∷ others ∷ more) widths is = cc
 
-expr_piece : (piece : Piece) → piece_formed piece ≡ true → has_sources piece ≡ true
-expr_piece (VarPiece var constant size cond) formed = refl
-expr_piece (LitPiece value boolean) formed = refl
-expr_piece (AppPiece op size once sources) formed = (and_parts (may_stand op) (nat_eq sources (length (op_info op).inputs)) formed).1
-
-expr_pieces : (list : List Piece) → list_all piece_formed list ≡ true → list_all has_sources list ≡ true
-expr_pieces [] formed = refl
-expr_pieces (piece ∷ list) formed =
-    let parts = and_parts (piece_formed piece) (list_all piece_formed list) formed in
-    and_from (has_sources piece) (list_all has_sources list) (expr_piece piece parts.0) (expr_pieces list parts.1)
-
 none : (t : Terms) (widths : List Width) → terms_count t ≡ 0 → typing.roots t widths ≡ []
 none Nil widths is = refl
 none (VarThen var constant size cond rest) widths is = absurd (omega (arith, is))
@@ -113,11 +123,15 @@ expr_typed : (at : Setting) (size : Option Width) (terms : Terms) (widths : List
 expr_typed at size terms widths expr typed =
     let formed = and_parts (nat_eq (terms_count terms) 1) (list_all piece_formed (pieces terms)) expr in
     let one : terms_count terms ≡ 1 = eqb-true (terms_count terms) 1 formed.0 in
-    let have = expr_pieces (pieces terms) formed.1 in
+    let have = pieces_sources (pieces terms) formed.1 in
     let parts = and_parts (obeys terms widths && list_all (has_var_size at) (occurrences terms widths)) (is_size size (first_of widths)) typed in
     let vars = and_parts (obeys terms widths) (list_all (has_var_size at) (occurrences terms widths)) parts.0 in
     record {
-      term = record { one = subst (λ n. AreTerms n (nodes_of terms widths)) one (have_terms terms widths have); stand = nodes_stand at terms widths vars.1 };
+      term = record {
+        one = subst (λ n. AreTerms n (nodes_of terms widths)) one (have_terms terms widths have);
+        stand = nodes_stand at terms widths vars.1;
+        fit = fit_nodes_of terms widths formed.1 vars.0;
+      };
       width = first_of widths;
       sized = roots_are terms widths have ∙ root_of terms widths one;
       asked = parts.1;

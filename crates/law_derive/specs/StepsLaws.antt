@@ -17,6 +17,8 @@ use Rattle.law_derive.specs.declared.node.Kind.TheVariants.{App, Var, Lit}
 use Rattle.law_derive.specs.declared.node.Node.{Node}
 use Rattle.law_derive.specs.ByLawLaws.{Keeps, by_law_keeps}
 use Rattle.law_derive.specs.Derivations.{Setting, StepFault, at_path, by_calc, by_law, calculated, expr_nodes, has_var, is_var, law_numbered, law_step, put_at, is_size, size_of_expr, size_of_nodes, step_made}
+use Rattle.law_derive.specs.Fit.{nodes_fit}
+use Rattle.law_derive.specs.FitLaws.{fit_append, fit_behind, fit_drop, fit_take}
 use Rattle.law_derive.specs.LawsHold.{IsLaw}
 use Rattle.law_derive.specs.LawsHoldLaws.{laws_hold}
 use Rattle.law_derive.specs.LawTable.{Law, laws}
@@ -78,7 +80,12 @@ module _ (at : Setting) (nodes : List Node) (stands : IsTermAt at nodes) (path :
       let e : suc found.0 ≡ 1 + found.0 = omega arith in
       let parts = terms_split 1 found.0 behind (subst (λ n. AreTerms n behind) e found.1) in
       let standing = all_drop (NodeStands at) place nodes stands.stand in
-      let first : IsTermAt at (first_term behind) = record { one = parts.0; stand = all_take (NodeStands at) (extent 1 behind) behind standing } in
+      let fitting = fit_drop place nodes stands.fit in
+      let first : IsTermAt at (first_term behind) = record {
+        one = parts.0;
+        stand = all_take (NodeStands at) (extent 1 behind) behind standing;
+        fit = fit_take (extent 1 behind) 1 behind parts.0 fitting;
+      } in
       let kept = keeps first in
       let rest : List Node = behind_first behind in
       let whole : nodes ≡ take place nodes ++ (first_term behind ++ rest) =
@@ -92,6 +99,8 @@ module _ (at : Setting) (nodes : List Node) (stands : IsTermAt at nodes) (path :
           one = swapped 1 (1 + found.0) (take place nodes) (first_term behind ++ rest) (part ++ rest) old_terms new_terms (subst (AreTerms 1) whole stands.one);
           stand = all_append (NodeStands at) (take place nodes) (part ++ rest) (all_take (NodeStands at) place nodes stands.stand)
               (all_append (NodeStands at) part rest kept.stands.stand (all_drop (NodeStands at) (extent 1 behind) behind standing));
+          fit = fit_behind (take place nodes) (first_term behind ++ rest) (part ++ rest) (sym sizes) (subst (λ n. nodes_fit n ≡ true) whole stands.fit)
+              (fit_append 1 part rest kept.stands.one kept.stands.fit (fit_drop (extent 1 behind) behind fitting));
         };
         sizes = roots_behind (take place nodes) (part ++ rest) (first_term behind ++ rest) sizes ∙ ap roots (sym whole);
         same = λ words are.

@@ -46,14 +46,14 @@ have_terms (AppThen op size once args rest) widths have =
 -- ---- sizes and values
 
 module _ {X : Type 0} where
-  take_front : (n : ℕ) (a b : List X) → length a ≡ n → take n (a ++ b) ≡ a
+  pub take_front : (n : ℕ) (a b : List X) → length a ≡ n → take n (a ++ b) ≡ a
   take_front n a b is = ap (λ k. take k (a ++ b)) (sym is) ∙ take-append_seam a b
 
   drop_front : (n : ℕ) (a b : List X) → length a ≡ n → drop n (a ++ b) ≡ b
   drop_front n a b is = ap (λ k. drop k (a ++ b)) (sym is) ∙ drop-append_seam a b
 
 -- the sources of an opcode
-sources_stand : (op : Op) (size : _) (once : Bool) (args rest : Terms) (widths : List Width) → list_all has_sources (pieces (AppThen op size once args rest)) ≡ true
+pub sources_stand : (op : Op) (size : _) (once : Bool) (args rest : Terms) (widths : List Width) → list_all has_sources (pieces (AppThen op size once args rest)) ≡ true
     → AreTerms (arity op) (nodes_of args widths) × (list_all has_sources (pieces args) ≡ true) × (list_all has_sources (pieces rest) ≡ true)
 sources_stand op size once args rest widths have =
     let parts = and_parts (nat_eq (terms_count args) (arity op)) (list_all has_sources (pieces args ++ pieces rest)) have in

@@ -7,6 +7,7 @@
 ghost use Rattle.law_derive.specs.LawsHold.{LawsHold};
 ghost use Rattle.law_derive.specs.Sound.{DerivationsAreSound};
 
+mod calc;
 mod check;
 mod fault;
 mod filling;
