@@ -1,6 +1,7 @@
 -- The words of terms that fit: as many as their opcodes ask for, and each in front of those behind its sources.
-use Rattle.std.proofs.Common.{◌≡◌, ◌+◌, ◌-◌, ◌<◌, ◌≤◌, ℕ, suc, true, List, [], ◌∷◌, drop, length, map, set, take, refl, sym, ap, ◌∙◌, subst, arith}
+use Rattle.std.proofs.Common.{◌≡◌, ◌+◌, ◌-◌, ◌<◌, ◌≤◌, ℕ, suc, true, List, [], ◌∷◌, drop, get_or, length, map, set, take, refl, sym, ap, ◌∙◌, subst, arith}
 use Rattle.std.proofs.lemmas.Bool.{and_parts}
+use Rattle.std.proofs.Math.Seq.{drop-cons}
 use Rattle.std.proofs.lemmas.List.{drop-drop, drop-map, drop-set, length-drop, length-map, length-set, length-take, take-map}
 use Rattle.nir_ops.specs.declared.op.Op.{Op}
 use Rattle.nir_ops.specs.declared.width.Width.{Width}
@@ -13,8 +14,10 @@ use Rattle.rule_term.specs.Formed.{may_stand}
 use Rattle.rule_term.specs.Standing.{per_component-from_may_stand}
 use Rattle.law_derive.specs.declared.node.Kind.{Kind}
 use Rattle.law_derive.specs.declared.node.Kind.TheVariants.{App, Var, Lit}
-use Rattle.law_derive.specs.Fit.{kind_fits}
-use Rattle.law_derive.specs.Nodes.{arity, sources_of}
+use Rattle.law_derive.specs.declared.node.Node.{Node}
+use Rattle.law_derive.specs.Fit.{kind_fits, nodes_fit}
+use Rattle.law_derive.specs.FitLaws.{fit_drop}
+use Rattle.law_derive.specs.Nodes.{arity, roots, sources_of, values, with_root, with_value}
 
 -- what an opcode over other terms has
 pub record IsCall (op : Op) (width : Width) (behind : List Word) : Type 0 where
@@ -47,3 +50,41 @@ word_put words begin count word some within =
     let e : begin + count - 1 + 1 ≡ begin + count = omega (arith, some) in
     drop-set words (begin + count - 1) word (omega (arith, some, within))
     ∙ ap (λ n. word ∷ drop n words) e ∙ ap (λ list. word ∷ list) (sym (drop-drop count begin words))
+
+-- the node before a place, and those from the place on
+pub node_before : (nodes : List Node) (at : ℕ) (d : Node) → 0 < at → at ≤ length nodes → drop (at - 1) nodes ≡ get_or nodes (at - 1) d ∷ drop at nodes
+node_before nodes at d some within =
+    let e : suc (at - 1) ≡ at = omega (arith, some) in
+    drop-cons nodes (at - 1) d (omega (arith, some, within)) ∙ ap (λ n. get_or nodes (at - 1) d ∷ drop n nodes) e
+
+-- a node of terms that fit, and are words, does so
+pub fits_before : (nodes : List Node) (at : ℕ) (d : Node) → 0 < at → at ≤ length nodes → nodes_fit nodes ≡ true
+    → kind_fits (get_or nodes (at - 1) d).width (get_or nodes (at - 1) d).kind (roots (drop at nodes)) ≡ true
+fits_before nodes at d some within fit =
+    let node : Node = get_or nodes (at - 1) d in
+    let own : nodes_fit (node ∷ drop at nodes) ≡ true = subst (λ list. nodes_fit list ≡ true) (node_before nodes at d some within) (fit_drop (at - 1) nodes fit) in
+    (and_parts (kind_fits node.width node.kind (roots (drop at nodes))) (nodes_fit (drop at nodes)) own).0
+
+root_is : (width : Width) (kind : Kind) (behind : List Width) → with_root width kind behind ≡ width ∷ drop (sources_of kind) behind
+root_is width (App op) behind = refl
+root_is width (Var var) behind = refl
+root_is width (Lit word) behind = refl
+
+module _ (words : List Word) (begin : ℕ) (word : Word) (node : Node) (rest : List Node) (some : 0 < begin) (within : begin + sources_of node.kind ≤ length words)
+    (sizes : words_widths (drop begin words) ≡ roots rest) where
+  -- one more value
+  pub values_step : words_bits (drop begin words) ≡ values rest []
+      → word.bits ∷ drop (sources_of node.kind) (words_bits (drop begin words)) ≡ with_value node.width node.kind (words_widths (drop begin words)) [] (words_bits (drop begin words))
+      → words_bits (drop (begin + sources_of node.kind - 1) (set words (begin + sources_of node.kind - 1) word)) ≡ values (node ∷ rest) []
+  values_step made value =
+      ap words_bits (word_put words begin (sources_of node.kind) word some within)
+      ∙ ap (λ list. word.bits ∷ list) (sym (drop-map (λ (w : Word). w.bits) (sources_of node.kind) (drop begin words))) ∙ value
+      ∙ (λ i. with_value node.width node.kind (sizes i) [] (made i))
+
+  -- one more size
+  pub sizes_step : word.width ≡ node.width
+      → words_widths (drop (begin + sources_of node.kind - 1) (set words (begin + sources_of node.kind - 1) word)) ≡ roots (node ∷ rest)
+  sizes_step width =
+      ap words_widths (word_put words begin (sources_of node.kind) word some within)
+      ∙ ap (λ list. word.width ∷ list) (sym (drop-map (λ (w : Word). w.width) (sources_of node.kind) (drop begin words)))
+      ∙ (λ i. width i ∷ drop (sources_of node.kind) (sizes i)) ∙ sym (root_is node.width node.kind (roots rest))
