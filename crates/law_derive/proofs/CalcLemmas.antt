@@ -4,7 +4,9 @@ use Rattle.std.proofs.lemmas.Bool.{and_parts}
 use Rattle.std.proofs.Math.Seq.{drop-cons}
 use Rattle.std.proofs.lemmas.List.{drop-drop, drop-map, drop-set, length-drop, length-map, length-set, length-take, take-map}
 use Rattle.nir_ops.specs.declared.op.Op.{Op}
+use Rattle.nir_ops.specs.declared.op.Op.TheVariants.{Iadd}
 use Rattle.nir_ops.specs.declared.width.Width.{Width}
+use Rattle.nir_ops.specs.declared.width.Width.TheVariants.{W1}
 use Rattle.nir_ops.specs.Opcodes.{op_info}
 use Rattle.op_eval.specs.Calls.{Fits, per_component, sizes_fit, source_widths, unsized_width}
 use Rattle.op_eval.specs.Sizes.{Fits-from_sizes_fit}
@@ -15,9 +17,11 @@ use Rattle.rule_term.specs.Standing.{per_component-from_may_stand}
 use Rattle.law_derive.specs.declared.node.Kind.{Kind}
 use Rattle.law_derive.specs.declared.node.Kind.TheVariants.{App, Var, Lit}
 use Rattle.law_derive.specs.declared.node.Node.{Node}
+use Rattle.law_derive.specs.Calculations.{IsComputable}
 use Rattle.law_derive.specs.Fit.{kind_fits, nodes_fit}
 use Rattle.law_derive.specs.FitLaws.{fit_drop}
 use Rattle.law_derive.specs.Nodes.{arity, roots, sources_of, values, with_root, with_value}
+use Rattle.law_derive.specs.NodesLaws.{count_values}
 
 -- what an opcode over other terms has
 pub record IsCall (op : Op) (width : Width) (behind : List Word) : Type 0 where
@@ -51,18 +55,21 @@ word_put words begin count word some within =
     drop-set words (begin + count - 1) word (omega (arith, some, within))
     ∙ ap (λ n. word ∷ drop n words) e ∙ ap (λ list. word ∷ list) (sym (drop-drop count begin words))
 
--- the node before a place, and those from the place on
-pub node_before : (nodes : List Node) (at : ℕ) (d : Node) → 0 < at → at ≤ length nodes → drop (at - 1) nodes ≡ get_or nodes (at - 1) d ∷ drop at nodes
-node_before nodes at d some within =
-    let e : suc (at - 1) ≡ at = omega (arith, some) in
-    drop-cons nodes (at - 1) d (omega (arith, some, within)) ∙ ap (λ n. get_or nodes (at - 1) d ∷ drop n nodes) e
+-- the node before a place
+abbrev pub node_before : List Node → ℕ → Node
+node_before nodes at = get_or nodes (at - 1) (record { kind = App Iadd; width = W1 })
 
--- a node of terms that fit, and are words, does so
-pub fits_before : (nodes : List Node) (at : ℕ) (d : Node) → 0 < at → at ≤ length nodes → nodes_fit nodes ≡ true
-    → kind_fits (get_or nodes (at - 1) d).width (get_or nodes (at - 1) d).kind (roots (drop at nodes)) ≡ true
-fits_before nodes at d some within fit =
-    let node : Node = get_or nodes (at - 1) d in
-    let own : nodes_fit (node ∷ drop at nodes) ≡ true = subst (λ list. nodes_fit list ≡ true) (node_before nodes at d some within) (fit_drop (at - 1) nodes fit) in
+pub nodes_from : (nodes : List Node) (at : ℕ) → 0 < at → at ≤ length nodes → drop (at - 1) nodes ≡ node_before nodes at ∷ drop at nodes
+nodes_from nodes at some within =
+    let e : suc (at - 1) ≡ at = omega (arith, some) in
+    drop-cons nodes (at - 1) _ (omega (arith, some, within)) ∙ ap (λ n. node_before nodes at ∷ drop n nodes) e
+
+-- each node of terms that fit does so
+pub node_fits : (nodes : List Node) (at : ℕ) → 0 < at → at ≤ length nodes → nodes_fit nodes ≡ true
+    → kind_fits (node_before nodes at).width (node_before nodes at).kind (roots (drop at nodes)) ≡ true
+node_fits nodes at some within fit =
+    let node : Node = node_before nodes at in
+    let own : nodes_fit (node ∷ drop at nodes) ≡ true = subst (λ list. nodes_fit list ≡ true) (nodes_from nodes at some within) (fit_drop (at - 1) nodes fit) in
     (and_parts (kind_fits node.width node.kind (roots (drop at nodes))) (nodes_fit (drop at nodes)) own).0
 
 root_is : (width : Width) (kind : Kind) (behind : List Width) → with_root width kind behind ≡ width ∷ drop (sources_of kind) behind
@@ -88,3 +95,24 @@ module _ (words : List Word) (begin : ℕ) (word : Word) (node : Node) (rest : L
       ap words_widths (word_put words begin (sources_of node.kind) word some within)
       ∙ ap (λ list. word.width ∷ list) (sym (drop-map (λ (w : Word). w.width) (sources_of node.kind) (drop begin words)))
       ∙ (λ i. width i ∷ drop (sources_of node.kind) (sizes i)) ∙ sym (root_is node.width node.kind (roots rest))
+
+-- one term has one value
+pub only_value : (nodes : List Node) (words : List Word) (begin : ℕ) → IsComputable nodes → words_bits (drop begin words) ≡ values nodes [] → begin < length words
+only_value nodes words begin is made =
+    let count : length (words_bits (drop begin words)) ≡ 1 = ap length made ∙ count_values [] 1 nodes is.one in
+    let same = length-map (drop begin words) (λ (word : Word). word.bits) in
+    let left = length-drop begin words in
+    omega (arith, count, same, left)
+
+none_behind : (list : List ℕ) → suc (length list) ≡ 1 → list ≡ []
+none_behind [] is = refl
+none_behind (word ∷ list) is = absurd (omega (arith, is))
+
+pub value_is : (nodes : List Node) (words : List Word) (begin : ℕ) (d : Word) → IsComputable nodes → words_bits (drop begin words) ≡ values nodes []
+    → values nodes [] ≡ (get_or words begin d).bits ∷ []
+value_is nodes words begin d is made =
+    let word : Word = get_or words begin d in
+    let first : words_bits (drop begin words) ≡ word.bits ∷ words_bits (drop (suc begin) words) =
+    ap words_bits (drop-cons words begin d (only_value nodes words begin is made)) in
+    let count : suc (length (words_bits (drop (suc begin) words))) ≡ 1 = sym (ap length first) ∙ ap length made ∙ count_values [] 1 nodes is.one in
+    sym made ∙ first ∙ ap (λ list. word.bits ∷ list) (none_behind (words_bits (drop (suc begin) words)) count)

@@ -75,7 +75,7 @@ pub(crate) fn value_of(alloc: Global, nodes: &[Node]) -> Result<Word, OutOfMemor
 {
     let mut words = empty_words(alloc, nodes.len())?;
     let begin = put_values(words.as_mut_slice(), nodes);
-    Ok(words[begin])
+    Ok(words.as_slice()[begin])
 }
 
 /// So many words.
