@@ -1,8 +1,8 @@
 -- The words of terms that fit: as many as their opcodes ask for, and each in front of those behind its sources.
-use Rattle.std.proofs.Common.{◌≡◌, ◌+◌, ◌-◌, ◌<◌, ◌≤◌, ℕ, suc, true, List, [], ◌∷◌, drop, get_or, length, map, set, take, refl, sym, ap, ◌∙◌, subst, arith}
+use Rattle.std.proofs.Common.{◌≡◌, ◌+◌, ◌-◌, ◌<◌, ◌≤◌, ℕ, suc, true, List, [], ◌∷◌, drop, get_or, length, set, take, refl, sym, ap, ◌∙◌, subst, arith}
 use Rattle.std.proofs.lemmas.Bool.{and_parts}
 use Rattle.std.proofs.Math.Seq.{drop-cons}
-use Rattle.std.proofs.lemmas.List.{drop-drop, drop-map, drop-set, length-drop, length-map, length-set, length-take, take-map}
+use Rattle.std.proofs.lemmas.List.{drop-drop, drop-map, drop-set, length-drop, length-map, length-take, take-map}
 use Rattle.nir_ops.specs.declared.op.Op.{Op}
 use Rattle.nir_ops.specs.declared.op.Op.TheVariants.{Iadd}
 use Rattle.nir_ops.specs.declared.width.Width.{Width}

@@ -1,6 +1,5 @@
 -- Terms that can be computed, and what a calculation answers.
 use Rattle.std.specs.Prelude.{◌≡◌, true, List, [], Option, Some, None, Result, Ok, Err}
-use Rattle.std.specs.List.{AllByRecursion}
 use Rattle.law_derive.specs.declared.node.Node.{Node}
 use Rattle.law_derive.specs.Derivations.{StepFault, NoMatch}
 use Rattle.law_derive.specs.Fit.{nodes_fit}

@@ -1,5 +1,5 @@
 -- Terms that fit, beside others, behind others and in their place; and terms of rules at sizes that obey.
-use Rattle.std.proofs.Common.{◌≡◌, ◌+◌, ◌≤◌, ℕ, zero, suc, Bool, true, List, [], ◌∷◌, ◌++◌, take, drop, length, refl, sym, ap, ◌∙◌, subst, arith}
+use Rattle.std.proofs.Common.{◌≡◌, ◌+◌, ◌≤◌, ℕ, zero, suc, true, List, [], ◌∷◌, ◌++◌, take, drop, length, refl, sym, ap, ◌∙◌, subst, arith}
 use Rattle.std.specs.Prelude.{◌&&◌, nat_eq}
 use Rattle.std.specs.List.{list_all}
 use Rattle.std.proofs.lemmas.Bool.{and_from, and_parts}
@@ -18,7 +18,7 @@ use Rattle.law_derive.specs.declared.node.Kind.TheVariants.{App, Var, Lit}
 use Rattle.law_derive.specs.declared.node.Node.{Node}
 use Rattle.law_derive.specs.Derivations.{piece_formed}
 use Rattle.law_derive.specs.Fit.{kind_fits, nodes_fit}
-use Rattle.law_derive.specs.Nodes.{AreTerms, arity, extent, nodes_of, roots, sources_of}
+use Rattle.law_derive.specs.Nodes.{AreTerms, arity, nodes_of, roots, sources_of}
 use Rattle.law_derive.specs.NodesLaws.{count_roots, roots_append, roots_behind}
 use Rattle.law_derive.specs.TermsLaws.{has_sources, roots_are, sources_stand, take_front}
 

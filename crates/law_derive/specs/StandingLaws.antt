@@ -1,20 +1,18 @@
 -- Terms over the variables of a rule at their sizes: the expressions of steps are such terms, and so is the search side.
-use Rattle.std.proofs.Common.{◌≡◌, ◌<◌, ◌^◌, ℕ, suc, Bool, true, List, [], ◌∷◌, drop, take, length, filter, Option, Some, None, refl, sym, ap, ◌∙◌, subst, arith, ⊎_elim}
+use Rattle.std.proofs.Common.{◌≡◌, ◌<◌, ◌^◌, ℕ, suc, Bool, true, List, [], ◌∷◌, drop, take, filter, Option, Some, None, refl, sym, ap, ◌∙◌, subst, arith, ⊎_elim}
 use Rattle.std.specs.Prelude.{◌&&◌, nat_eq, cond}
 use Rattle.std.specs.List.{AllByRecursion, list_all}
 use Rattle.std.specs.Option.{option_map}
-use Rattle.std.proofs.lemmas.Bool.{and_from, and_parts, eqb-true}
+use Rattle.std.proofs.lemmas.Bool.{and_parts, eqb-true}
 use Rattle.std.proofs.lemmas.List.{take-append-drop}
 use Rattle.std.proofs.lemmas.Nat.{pow_pos}
 use Rattle.list_laws.specs.AllLaws.{all_append, all_each, all_back, all_front, passes_append}
 use Rattle.list_laws.specs.BoolLaws.{chosen}
 use Rattle.nir_ops.specs.declared.width.Width.{Width}
-use Rattle.nir_ops.specs.Opcodes.{op_info}
 use Rattle.nir_ops.specs.Width.{width_bits}
 use Rattle.op_eval.specs.Sizes.{same_width-same}
 use Rattle.op_eval.proofs.WordLemmas.{residue_lt}
-use Rattle.rule_term.specs.Formed.{may_stand}
-use Rattle.rule_term.specs.Pieces.{Piece, VarPiece, LitPiece, AppPiece, pieces, terms_count}
+use Rattle.rule_term.specs.Pieces.{pieces, terms_count}
 use Rattle.rule_term.specs.Terms.{Terms, Nil, VarThen, LitThen, AppThen}
 use Rattle.rule_term.specs.Typings.{Occurrence, occurrences, obeys, first_of, size_of, width_lists}
 use Rattle.rule_term.specs.Typings as typing
@@ -153,3 +151,7 @@ expr_is at size terms nodes is =
     (λ expr. typed_expr at size terms (only (filter (is_expr_typing at size terms) (width_lists (size_of terms)))) nodes expr.0 refl expr.1)
     (λ none. absurd (let never = none.1 in cc))
     (chosen (is_expr terms) (option_map (nodes_of terms) (only (filter (is_expr_typing at size terms) (width_lists (size_of terms))))) None (Some nodes) is)
+
+-- the nodes of an expression can be computed
+pub expr_computable : (at : Setting) (size : Option Width) (terms : Terms) (nodes : List Node) → expr_nodes at size terms ≡ Some nodes → IsComputable nodes
+expr_computable at size terms nodes is = computable at nodes (expr_is at size terms nodes is).term

@@ -74,11 +74,21 @@ pub(crate) fn value_of(alloc: Global, nodes: &[Node]) -> Result<Word, OutOfMemor
     ensures { IfOk result (λ word. values nodes.now [] ≡ word.bits ∷ []) }
 {
     let mut words = empty_words(alloc, nodes.len())?;
-    let begin = put_values(words.as_mut_slice(), nodes);
-    Ok(words.as_slice()[begin])
+    Ok(value_on(words.as_mut_slice(), nodes))
 }
 
-/// So many words.
+/// The same, on as many words as nodes.
+#[tactic(auto, using(crate::proofs::CalcLemmas::only_value, crate::proofs::CalcLemmas::value_is))]
+fn value_on(words: &mut [Word], nodes: &[Node]) -> Word
+    requires room { length words.old ≡ length nodes.now }
+    requires computable { IsComputable nodes.now }
+    ensures { values nodes.now [] ≡ result.bits ∷ [] }
+{
+    let begin = put_values(words, nodes);
+    words[begin]
+}
+
+/// So many words, each 0.
 fn empty_words(alloc: Global, count: usize) -> Result<Vec<Word>, OutOfMemory>
     ensures { IfOk result (λ words. length words.items ≡ count) }
 {

@@ -1,6 +1,5 @@
-use Rattle.std.proofs.Common.{◌≡◌, ◌∙◌, ap, arith, List, sym, subst, take}
+use Rattle.std.proofs.Common.{◌≡◌, ◌∙◌, ap, arith, sym, subst, take}
 use Rattle.std.proofs.lemmas.List.{length-take-le, take-map}
-use Rattle.nir_ops.specs.declared.width.Width.{Width}
 use Rattle.nir_ops.specs.Width.{width_bits}
 use Rattle.op_eval.specs.Calls.{Fits, unsized_width}
 use Rattle.op_eval.specs.Meaning.{op_mean}
