@@ -1,6 +1,6 @@
 -- Terms over the variables of a rule at their sizes: the expressions of steps are such terms, and so is the search side.
 use Rattle.std.proofs.Common.{◌≡◌, ◌<◌, ◌^◌, ℕ, suc, Bool, true, List, [], ◌∷◌, drop, take, filter, Option, Some, None, refl, sym, ap, ◌∙◌, subst, arith, ⊎_elim}
-use Rattle.std.specs.Prelude.{◌&&◌, nat_eq, cond}
+use Rattle.std.specs.Prelude.{◌&&◌, IfSome, nat_eq, cond}
 use Rattle.std.specs.List.{AllByRecursion, list_all}
 use Rattle.std.specs.Option.{option_map}
 use Rattle.std.proofs.lemmas.Bool.{and_parts, eqb-true}
@@ -153,5 +153,6 @@ expr_is at size terms nodes is =
     (chosen (is_expr terms) (option_map (nodes_of terms) (only (filter (is_expr_typing at size terms) (width_lists (size_of terms))))) None (Some nodes) is)
 
 -- the nodes of an expression can be computed
-pub expr_computable : (at : Setting) (size : Option Width) (terms : Terms) (nodes : List Node) → expr_nodes at size terms ≡ Some nodes → IsComputable nodes
-expr_computable at size terms nodes is = computable at nodes (expr_is at size terms nodes is).term
+pub expr_computable : (at : Setting) (size : Option Width) (terms : Terms) (own : Option (List Node)) → own ≡ expr_nodes at size terms → IfSome own (λ nodes. IsComputable nodes)
+expr_computable at size terms None is = tt
+expr_computable at size terms (Some nodes) is = computable at nodes (expr_is at size terms nodes (sym is)).term
