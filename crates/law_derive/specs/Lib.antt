@@ -1,7 +1,11 @@
 pub mod ByLawLaws
 pub mod Derivations
 pub mod DerivationsLaws
+pub mod ExprNodesLaws
+pub mod ExprSizes
+pub mod ExprSizesLaws
 pub mod FineLaws
+pub mod KnownLaws
 pub mod LawStepLaws
 pub mod LawTable
 pub mod LawsHold
@@ -10,6 +14,7 @@ pub mod Matching
 pub mod MatchingLaws
 pub mod Nodes
 pub mod NodesLaws
+pub mod OnlyListLaws
 pub mod SameLaws
 pub mod SidesLaws
 pub mod Sound

@@ -8,6 +8,7 @@ ghost use Rattle.law_derive.specs.LawsHold.{LawsHold};
 ghost use Rattle.law_derive.specs.Sound.{DerivationsAreSound};
 
 mod check;
+mod expr;
 mod fault;
 mod filling;
 mod law;
@@ -16,6 +17,7 @@ mod node;
 mod parts;
 mod same;
 mod side;
+mod sizes;
 mod table;
 
 pub use check::check_derivation;

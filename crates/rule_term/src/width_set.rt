@@ -15,21 +15,21 @@ use crate::term::Term;
 use nir_ops::{Op, OpInput, Width, allowed, info};
 
 /// The size of each variable by its number, as far as it is known.
-pub(crate) type Known = [Option<Width>; 16];
+pub type Known = [Option<Width>; 16];
 
 /// A set of sizes.
 #[derive(Clone, Copy)]
-pub(crate) struct WidthSet {
-    w1: bool,
-    w8: bool,
-    w16: bool,
-    w32: bool,
-    w64: bool,
+pub struct WidthSet {
+    pub w1: bool,
+    pub w8: bool,
+    pub w16: bool,
+    pub w32: bool,
+    pub w64: bool,
 }
 
 impl WidthSet {
     /// Whether the set has the size.
-    pub(crate) fn has(self, width: Width) -> bool
+    pub fn has(self, width: Width) -> bool
         ensures { result ≡ set_has self width }
     {
         match width {
@@ -137,7 +137,7 @@ fn gives(op: Op, set: WidthSet, dst: Width, free: Width) -> bool
 }
 
 /// The least unsized size of the set at which the result of the opcode has the size.
-pub(crate) fn unsized_for(op: Op, set: WidthSet, dst: Width) -> Option<Width>
+pub fn unsized_for(op: Op, set: WidthSet, dst: Width) -> Option<Width>
     ensures { result ≡ find (λ free. set_has set free && same_width (result_width op free) dst) every_width }
 {
     if gives(op, set, dst, Width::W1) {
@@ -182,7 +182,7 @@ fn sizes_of_result(op: Op, set: WidthSet, size: Option<Width>) -> WidthSet
 }
 
 /// The size that an opcode has for a source at a place, if it is not unsized: past the end it is 1.
-pub(crate) fn demanded(inputs: &[OpInput], at: usize) -> Option<Width>
+pub fn demanded(inputs: &[OpInput], at: usize) -> Option<Width>
     ensures { (free : Size) → size_at result free ≡ first_of (drop at (map (λ input. size_at input.kind.size free) inputs.now)) }
 {
     match inputs.get(at) {
@@ -191,9 +191,10 @@ pub(crate) fn demanded(inputs: &[OpInput], at: usize) -> Option<Width>
     }
 }
 
-/// The sizes that the root of the term can have.
+/// The sizes that the root of the term can have, where variables have the sizes that are known. It takes no memory, and
+/// visits each node once.
 #[cycle(sizes)]
-pub(crate) fn sizes_of_term(term: &Term, known: &Known) -> WidthSet
+pub fn sizes_of_term(term: &Term, known: &Known) -> WidthSet
     ensures { result ≡ set_of (λ width. can (knows known.now) (terms_of (term.now ∷ [])) (width ∷ [])) }
 {
     match term {
@@ -208,7 +209,7 @@ pub(crate) fn sizes_of_term(term: &Term, known: &Known) -> WidthSet
 
 /// The unsized sizes at which the opcode works and its sources can have their sizes.
 #[cycle(sizes)]
-pub(crate) fn usable(op: Op, args: &[Term], known: &Known) -> WidthSet
+pub fn usable(op: Op, args: &[Term], known: &Known) -> WidthSet
     ensures { result ≡ set_of (λ free. op_allows op free && can (knows known.now) (terms_of args.now) (source_widths op free)) }
 {
     let row = info(op);
