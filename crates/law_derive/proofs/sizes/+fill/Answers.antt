@@ -12,19 +12,19 @@ use Rattle.law_derive.proofs.sizes.+fill.Goals as goal
 
 pub fill_term-returns-in-Var : goal.fill_term-returns-in-Var
 fill_term-returns-in-Var t c =
-    c.push.ensures.ok ∙ ap (λ l. c.args.widths.now ++ l) (sym (least-var (knows c.args.known.now) c.args.term.now c.in-Var.var c.in-Var.constant c.in-Var.size c.in-Var.cond c.args.width c.in-Var.is))
+    c.in_ok-push.ensures.ok ∙ ap (λ l. c.args.widths.now ++ l) (sym (least-var (knows c.args.known.now) c.args.term.now c.in-Var.var c.in-Var.constant c.in-Var.size c.in-Var.cond c.args.width c.in-Var.is))
 
 pub fill_term-returns-in-Lit : goal.fill_term-returns-in-Lit
 fill_term-returns-in-Lit t c =
-    c.push.ensures.ok ∙ ap (λ l. c.args.widths.now ++ l) (sym (least-lit (knows c.args.known.now) c.args.term.now c.in-Lit.value c.in-Lit.boolean c.args.width c.in-Lit.is))
+    c.in_ok-push.ensures.ok ∙ ap (λ l. c.args.widths.now ++ l) (sym (least-lit (knows c.args.known.now) c.args.term.now c.in-Lit.value c.in-Lit.boolean c.args.width c.in-Lit.is))
 
-pub fill_term-returns-in-App : goal.fill_term-returns-in-App
-fill_term-returns-in-App t c =
+pub fill_term-returns-in_ok-fill_terms-in-App : goal.fill_term-returns-in_ok-fill_terms-in-App
+fill_term-returns-in_ok-fill_terms-in-App t c =
     let fit = knows c.args.known.now in
     let made = least fit (terms_of c.as_slice-in-App.result.now) (map (λ input. size_at input.kind.size c.unwrap_or-free.result) c.as_slice-in-App-2.result.now) in
     let inputs : c.as_slice-in-App-2.result.now ≡ (op_info c.in-App.op).inputs = c.as_slice-in-App-2.ensures.value ∙ ap (λ row. row.inputs) c.info-row.ensures in
-    c.fill_terms.ensures
-    ∙ ap (λ l. l ++ made) c.push.ensures.ok
+    c.in_ok-fill_terms-in-App.ensures
+    ∙ ap (λ l. l ++ made) c.in_ok-push.ensures.ok
     ∙ append_assoc c.args.widths.now (c.args.width ∷ []) made
     ∙ ap (λ l. c.args.widths.now ++ l)
     (least_made fit c.args.term.now c.in-App.op c.in-App.size c.in-App.once c.in-App.args c.as_slice.result.now c.as_slice-in-App.result.now c.as_slice-in-App-2.result.now c.args.width c.unwrap_or-free.result c.usable-set.result
@@ -36,7 +36,7 @@ fill_terms-loop-at-preserved t c =
     let sizes = map (λ input. size_at input.kind.size c.args.free) c.args.inputs.now in
     record {
       so_far = fill_on (knows c.args.known.now) c.args.terms.now l.at c.index-terms-at.result sizes c.size_at-width.result l.widths c.fill_term.new.widths _ c.loop-at-test.true c.index-terms-at.is
-          (c.size_at-width.ensures ∙ c.demanded.ensures c.args.free) c.fill_term.ensures l.invariant.so_far;
+          (c.size_at-width.ensures ∙ c.demanded.ensures c.args.free) c.in_ok-fill_term.ensures l.invariant.so_far;
     }
 
 pub fill_terms-returns : goal.fill_terms-returns
