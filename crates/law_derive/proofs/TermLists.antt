@@ -1,8 +1,10 @@
 -- Lists of terms by their first: whether they are settled and formed, their least sizes, and their nodes.
-use Rattle.std.proofs.Common.{◌≡◌, ◌+◌, ◌<◌, ◌≤◌, refl, ℕ, suc, ℤ, Bool, true, List, [], ◌∷◌, ◌++◌, length, get_or, drop, Option, sym, ap, ◌∙◌, append_assoc}
+use Rattle.std.proofs.Common.{◌≡◌, ◌+◌, ◌<◌, ◌≤◌, refl, ℕ, suc, ℤ, Bool, true, List, [], ◌∷◌, ◌++◌, length, get_or, drop, Option, Some, None, cond, sym, ap, ◌∙◌, append_assoc}
 use Rattle.std.specs.Prelude.{◌&&◌, nat_eq}
 use Rattle.std.specs.List.{list_all}
+use Rattle.std.specs.Option.{option_map}
 use Rattle.std.proofs.Math.Bool.{and-true, and_assoc}
+use Rattle.std.proofs.lemmas.Bool.{and_from, eq-eqb}
 use Rattle.std.proofs.lemmas.List.{append-nil, drop-drop, drop_all, length-append}
 use Rattle.std.proofs.lemmas.List.Folds.{list_all-append}
 use Rattle.nir_ops.specs.declared.op.Op.{Op}
@@ -21,8 +23,8 @@ use Rattle.rule_term.specs.Splits.{drop_behind, drop_one, pieces-then, terms_cou
 use Rattle.rule_term.specs.Terms.{Terms, Nil, VarThen, LitThen, AppThen, terms_of}
 use Rattle.rule_term.specs.Typings.{first_of, size_of}
 use Rattle.rule_term.proofs.ReplaceRoots.{least-drop}
-use Rattle.law_derive.specs.Derivations.{piece_formed}
-use Rattle.law_derive.specs.ExprSizes.{is_settled, settled}
+use Rattle.law_derive.specs.Derivations.{is_expr, piece_formed}
+use Rattle.law_derive.specs.ExprSizes.{is_settled, nodes_from, root_of, settled}
 use Rattle.law_derive.specs.Nodes.{nodes_of}
 use Rattle.law_derive.specs.declared.node.Kind.TheVariants as kind
 use Rattle.law_derive.specs.declared.node.Node.{Node}
@@ -168,3 +170,17 @@ push_on list i t widths nodes next total within at made so_far =
 
 pub push_past : (list : List Term) (i : ℕ) (widths : List Width) → length list ≤ i → nodes_of (terms_of (drop i list)) widths ≡ []
 push_past list i widths past = ap (λ l. nodes_of (terms_of l) widths) (drop_all i list past)
+
+-- ---- the nodes of one term, from its root
+
+pub from_root : (fit : ℕ → Width → Bool) (size : Option Width) (t : Term) (width : Width) (widths : List Width) (nodes : List Node) → list_all piece_formed (pieces (terms_of (t ∷ []))) ≡ true → root_of fit size (terms_of (t ∷ [])) ≡ Some width
+    → widths ≡ least fit (terms_of (t ∷ [])) (width ∷ []) → nodes ≡ nodes_of (terms_of (t ∷ [])) widths → Some nodes ≡ nodes_from fit size (terms_of (t ∷ []))
+unfolding nodes_from
+from_root fit size t width widths nodes formed root filled made =
+    let terms = terms_of (t ∷ []) in
+    let at_root : Width → List Node = λ w. nodes_of terms (least fit terms (w ∷ [])) in
+    let one = eq-eqb (terms_count terms) 1 (terms_count-terms_of (t ∷ [])) in
+    let is : is_expr terms ≡ true = and_from (nat_eq (terms_count terms) 1) (list_all piece_formed (pieces terms)) one formed in
+    ap Some (made ∙ ap (nodes_of terms) filled)
+    ∙ sym (ap (option_map at_root) root)
+    ∙ sym (ap (λ b. cond b (option_map at_root (root_of fit size terms)) None) is)
