@@ -1,5 +1,5 @@
 -- The nodes of an expression are those that its root tells: exactly one list of sizes obeys where the expression is settled and has one root.
-use Rattle.std.proofs.Common.{◌≡◌, ◌≤◌, ◌<◌, refl, ℕ, suc, Bool, true, false, List, [], ◌∷◌, ◌++◌, length, take, filter, Option, Some, None, sym, ap, ◌∙◌, subst, arith, cond}
+use Rattle.std.proofs.Common.{◌≡◌, ◌≤◌, ◌<◌, refl, ℕ, Bool, true, false, List, [], ◌∷◌, length, filter, Option, Some, None, sym, ap, ◌∙◌, subst, arith, cond}
 use Rattle.std.specs.Prelude.{◌&&◌, nat_eq}
 use Rattle.std.specs.List.{list_all}
 use Rattle.std.specs.Option.{option_map}
@@ -9,7 +9,6 @@ use Rattle.nir_ops.specs.declared.width.Width.{Width}
 use Rattle.nir_ops.specs.Opcodes.{op_info}
 use Rattle.rule_term.specs.EightBitLaws.{has_sources, one_root}
 use Rattle.rule_term.specs.Formed.{may_stand}
-use Rattle.rule_term.specs.OneTyping.{IsOnly}
 use Rattle.rule_term.specs.Pieces.{Piece, VarPiece, LitPiece, AppPiece, pieces, terms_count}
 use Rattle.rule_term.specs.ReplaceLeast.{can, knows, least}
 use Rattle.rule_term.specs.Terms.{Terms}
@@ -19,9 +18,9 @@ use Rattle.rule_term.proofs.ReplaceRoots.{length-least}
 use Rattle.law_derive.specs.Derivations.{Setting, expr_nodes, has_var_size, is_expr, is_expr_typing, is_size, only, piece_formed}
 use Rattle.law_derive.specs.declared.node.Node.{Node}
 use Rattle.law_derive.specs.ExprSizes.{KnowsSizes, fit_of, nodes_from, root_may, root_of, settled, sole}
-use Rattle.law_derive.specs.ExprSizesLaws.{another, same_sizes, sole_none, sole_some, with_roots}
+use Rattle.law_derive.specs.ExprSizesLaws.{another, same_sizes, sole_none, sole_some}
 use Rattle.law_derive.specs.Nodes.{nodes_of}
-use Rattle.law_derive.specs.OnlyListLaws.{Other, only_none, only_one}
+use Rattle.law_derive.specs.OnlyListLaws.{only_none, only_one}
 
 -- an expression of one term, in which each opcode has its sources
 module _ (at : Setting) (size : Option Width) (terms : Terms) (one : terms_count terms ≡ 1) (sourced : list_all has_sources (pieces terms) ≡ true) where
@@ -82,15 +81,17 @@ module _ (at : Setting) (size : Option Width) (terms : Terms) (one : terms_count
       let root = sole_some may width found in
       let count = length-least fit terms (width ∷ []) in
       let passes = least_obeys width root.0 in
-      only_one obeys_all (sizes_at width) (size_of terms) count
-      (passes, λ other long h.
-      let count_other : length other ≡ size_of terms = long ∙ count in
-      let here = typed other h in
-      let own = typed (sizes_at width) passes in
-      let same : first_of other ≡ first_of (sizes_at width) = root.1 (first_of other) (typed_root other (omega arith) h) ∙ sym (least_first fit terms (width ∷ []) some_term) in
-      sym (take_all (size_of terms) other (omega arith))
-      ∙ same_sizes fit terms (first_of (sizes_at width) ∷ []) other (sizes_at width) is (omega arith) (omega arith) (subst (λ (w : Width). IsPart fit terms (w ∷ []) other) same here.part) own.part
-      ∙ take_all (size_of terms) (sizes_at width) (omega arith))
+      only_one obeys_all (sizes_at width) (size_of terms) count (
+        passes,
+        λ other long h.
+            let count_other : length other ≡ size_of terms = long ∙ count in
+            let here = typed other h in
+            let own = typed (sizes_at width) passes in
+            let same : first_of other ≡ first_of (sizes_at width) = root.1 (first_of other) (typed_root other (omega arith) h) ∙ sym (least_first fit terms (width ∷ []) some_term) in
+            sym (take_all (size_of terms) other (omega arith))
+            ∙ same_sizes fit terms (first_of (sizes_at width) ∷ []) other (sizes_at width) is (omega arith) (omega arith) (subst (λ (w : Width). IsPart fit terms (w ∷ []) other) same here.part) own.part
+            ∙ take_all (size_of terms) (sizes_at width) (omega arith),
+      )
 
   no_root : sole may ≡ None → only_left ≡ None
   no_root none = only_none obeys_all (size_of terms) (λ list long h.

@@ -1,9 +1,9 @@
 -- The sizes that are noted of the search side are those of the rule's variables.
-use Rattle.std.proofs.Common.{◌≡◌, refl, ℕ, zero, suc, Bool, true, false, List, [], ◌∷◌, ◌≤◌, length, map, take, arith, Option, Some, None, sym, ap, ◌∙◌, subst, cond, ◌⊎◌, ⊎_elim, inl, inr, replicate}
+use Rattle.std.proofs.Common.{◌≡◌, refl, ℕ, zero, suc, Bool, true, false, List, [], ◌∷◌, ◌≤◌, length, take, arith, Option, Some, None, sym, ap, ◌∙◌, subst, cond, ◌⊎◌, ⊎_elim, inl, inr, replicate}
 use Rattle.std.specs.Prelude.{◌&&◌, ◌||◌, nat_eq, slice_get}
-use Rattle.std.specs.List.{find, list_all, list_any}
-use Rattle.std.specs.Option.{option_and_then, option_map, unwrap_or}
-use Rattle.std.proofs.lemmas.Bool.{and_from, and_parts, cases_Bool, eq-eqb, eqb-true, false_from_ne_true, false≢true, or_left, or_right}
+use Rattle.std.specs.List.{find, list_all}
+use Rattle.std.specs.Option.{option_map, unwrap_or}
+use Rattle.std.proofs.lemmas.Bool.{and_from, and_parts, eq-eqb, eqb-true, false_from_ne_true, false≢true, or_left, or_right}
 use Rattle.std.proofs.lemmas.List.{length-take-le}
 use Rattle.std.proofs.lemmas.Option.{none-some, same_Some}
 use Rattle.list_laws.specs.OptionLaws.{between}
@@ -17,8 +17,8 @@ use Rattle.rule_term.specs.Typed.{IsTyped-from_is_typing}
 use Rattle.rule_term.specs.Typings.{Occurrence, is_typing, occurrences, replace_part, search_part, size_of}
 use Rattle.rule_term.proofs.ReplaceKnown.{Known, known_once, noted_known, one_noted, occurs, searched_noted}
 use Rattle.rule_term.proofs.ReplaceTypings.{room}
-use Rattle.law_derive.specs.Derivations.{Setting, has_size_of, size_of_var, standing}
-use Rattle.law_derive.specs.ExprSizes.{KnowsSizes, fit_of}
+use Rattle.law_derive.specs.Derivations.{Setting, has_size_of, standing}
+use Rattle.law_derive.specs.ExprSizes.{KnowsSizes}
 
 -- what is known was known before, or was noted
 noted_only : (list : List Occurrence) (before after : Known) → noted list before ≡ Some after → (var : ℕ) (width : Width) → knows after var width ≡ true → (knows before var width ≡ true) ⊎ (occurs var width list ≡ true)

@@ -1,4 +1,4 @@
-use Rattle.std.proofs.Common.{rules, ◌≡◌, ◌≤◌, ◌∙◌, ◌++◌, sym, ap, [], ◌∷◌, length, drop, to_z-of_z}
+use Rattle.std.proofs.Common.{rules, ◌≡◌, ◌∙◌, ◌++◌, sym, ap, [], ◌∷◌, length, drop, to_z-of_z}
 use Rattle.std.specs.Int.{w128}
 use Rattle.nir_ops.specs.Width.{width_bits}
 use Rattle.op_eval.specs.Word.{residue}
@@ -8,7 +8,6 @@ use Rattle.rule_term.proofs.ReplaceSteps.{first_of-drop}
 use Rattle.law_derive.proofs.TermLists.{nodes_of-app, nodes_of-lit, nodes_of-var, push_on}
 use Rattle.law_derive.specs.Nodes.{nodes_of}
 use Rattle.law_derive.specs.declared.node.Kind.TheVariants as kind
-use Rattle.law_derive.specs.declared.node.Node.{Node}
 use Rattle.law_derive.proofs.expr.+push.Goals as goal
 
 pub push_terms-loop-term-preserved : goal.push_terms-loop-term-preserved
