@@ -124,8 +124,8 @@ pub(crate) fn nodes_at(
     Ok(nodes)
 }
 
-/// The nodes of an expression from the sizes of its variables, where each of its nodes can have exactly one size and its root has the
-/// one that is asked for.
+/// The nodes of an expression from the sizes of its variables, where each of its nodes can have
+/// exactly one size and its root has the one that is asked for.
 #[tactic(auto, unfolding(crate::specs::ExprSizes::nodes_from))]
 fn expr_from(
     alloc: Global,
@@ -147,8 +147,8 @@ fn expr_from(
     Ok(Some(nodes))
 }
 
-/// The nodes of an expression of a step, where exactly one list of sizes obeys: variables have the sizes that are known, and the value has
-/// the one that is asked for.
+/// The nodes of an expression of a step, None where not exactly one list of sizes obeys: variables
+/// have the sizes that are known, and the value has the one that is asked for.
 #[tactic(auto, using(crate::specs::ExprNodesLaws::known_from_root))]
 pub(crate) fn expr_nodes(
     alloc: Global,

@@ -1,5 +1,5 @@
-//! The sizes of the nodes of an expression, where those of its variables are known: which one its root has, whether that fixes
-//! all others, and the least at a root.
+//! The sizes of the nodes of an expression, where those of its variables are known: which one its
+//! root has, whether that fixes all others, and the least at a root.
 
 ghost use Rattle.std.specs.Prelude.{◌≡◌, ◌&&◌, ◌||◌, not, [], ◌∷◌, ◌++◌, OnOk, map};
 ghost use Rattle.std.specs.List.{find};
@@ -121,7 +121,8 @@ fn is_settled(op: Op, args: &[Term], known: &Known) -> bool
     has_at_most_one(usable(op, args, known))
 }
 
-/// Whether the sizes of all nodes of the term are told by that of its root. It visits each node once for each opcode above it.
+/// Whether the sizes of all nodes of the term are told by that of its root. It visits each node once
+/// for each opcode above it.
 #[cycle(settled)]
 #[tactic(auto, using(crate::proofs::TermLists::settled_steps))]
 pub(crate) fn is_term_settled(term: &Term, known: &Known) -> bool
