@@ -1,1 +1,2 @@
 pub mod CalcLemmas
+pub mod TermLists

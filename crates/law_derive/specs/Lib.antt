@@ -2,9 +2,13 @@ pub mod ByLawLaws
 pub mod Calculations
 pub mod Derivations
 pub mod DerivationsLaws
+pub mod ExprNodesLaws
+pub mod ExprSizes
+pub mod ExprSizesLaws
 pub mod FineLaws
 pub mod Fit
 pub mod FitLaws
+pub mod KnownLaws
 pub mod LawStepLaws
 pub mod LawTable
 pub mod LawsHold
@@ -13,6 +17,7 @@ pub mod Matching
 pub mod MatchingLaws
 pub mod Nodes
 pub mod NodesLaws
+pub mod OnlyListLaws
 pub mod SameLaws
 pub mod SidesLaws
 pub mod Sound

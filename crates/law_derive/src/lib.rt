@@ -9,6 +9,7 @@ ghost use Rattle.law_derive.specs.Sound.{DerivationsAreSound};
 
 mod calc;
 mod check;
+mod expr;
 mod fault;
 mod filling;
 mod law;
@@ -17,6 +18,7 @@ mod node;
 mod parts;
 mod same;
 mod side;
+mod sizes;
 mod table;
 
 pub use check::check_derivation;

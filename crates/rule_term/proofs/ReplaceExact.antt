@@ -28,21 +28,21 @@ pub record IsPart (fit : ℕ → Width → Bool) (terms : Terms) (ends widths : 
   pub rooted : roots terms widths ≡ ends
   pub known : list_all (λ o. fit o.var o.width) (occurrences terms widths) ≡ true
 
-var_part : (fit : ℕ → Width → Bool) (var : ℕ) (constant : Bool) (size : Option Width) (cond : _) (rest : Terms) (r : Width) (ends widths : List Width) → has_size size r ≡ true → fit var r ≡ true → IsPart fit rest ends widths → IsPart fit (VarThen var constant size cond rest) (r ∷ ends) (r ∷ widths)
+pub var_part : (fit : ℕ → Width → Bool) (var : ℕ) (constant : Bool) (size : Option Width) (cond : _) (rest : Terms) (r : Width) (ends widths : List Width) → has_size size r ≡ true → fit var r ≡ true → IsPart fit rest ends widths → IsPart fit (VarThen var constant size cond rest) (r ∷ ends) (r ∷ widths)
 var_part fit var constant size cond rest r ends widths has may later = record {
   obeyed = and_from (has_size size r) (obeys rest widths) has later.obeyed;
   rooted = ap (λ l. r ∷ l) later.rooted;
   known = and_from (fit var r) (list_all (λ o. fit o.var o.width) (occurrences rest widths)) may later.known;
 }
 
-lit_part : (fit : ℕ → Width → Bool) (value : _) (boolean : Bool) (rest : Terms) (r : Width) (ends widths : List Width) → literal_fits value boolean r ≡ true → IsPart fit rest ends widths → IsPart fit (LitThen value boolean rest) (r ∷ ends) (r ∷ widths)
+pub lit_part : (fit : ℕ → Width → Bool) (value : _) (boolean : Bool) (rest : Terms) (r : Width) (ends widths : List Width) → literal_fits value boolean r ≡ true → IsPart fit rest ends widths → IsPart fit (LitThen value boolean rest) (r ∷ ends) (r ∷ widths)
 lit_part fit value boolean rest r ends widths fits later = record {
   obeyed = and_from (literal_fits value boolean r) (obeys rest widths) fits later.obeyed;
   rooted = ap (λ l. r ∷ l) later.rooted;
   known = later.known;
 }
 
-app_part : (fit : ℕ → Width → Bool) (op : Op) (size : Option Width) (once : Bool) (args rest : Terms) (r : Width) (ends sources widths : List Width) → has_size size r ≡ true → sizes_fit op r sources ≡ true → IsPart fit args sources widths → IsPart fit rest ends (drop (size_of args) widths) → IsPart fit (AppThen op size once args rest) (r ∷ ends) (r ∷ widths)
+pub app_part : (fit : ℕ → Width → Bool) (op : Op) (size : Option Width) (once : Bool) (args rest : Terms) (r : Width) (ends sources widths : List Width) → has_size size r ≡ true → sizes_fit op r sources ≡ true → IsPart fit args sources widths → IsPart fit rest ends (drop (size_of args) widths) → IsPart fit (AppThen op size once args rest) (r ∷ ends) (r ∷ widths)
 app_part fit op size once args rest r ends sources widths has fits under later =
     let behind = drop (size_of args) widths in
     record {
@@ -98,26 +98,26 @@ least_part fit (AppThen op size once args rest) (r ∷ ends) more sourced long m
 same_head : (w : Width) (a b : List Width) → not_after a b ≡ true → not_after (w ∷ a) (w ∷ b) ≡ true
 same_head w a b h = or_right (nat_lt (width_bits w) (width_bits w)) (same_width w w && not_after a b) (and_from (same_width w w) (not_after a b) (same_width-refl w) h)
 
-some_nodes : (terms : Terms) → 0 < terms_count terms → 0 < size_of terms
+pub some_nodes : (terms : Terms) → 0 < terms_count terms → 0 < size_of terms
 some_nodes Nil some = absurd (omega arith)
 some_nodes (VarThen var constant size cond rest) some = omega arith
 some_nodes (LitThen value boolean rest) some = omega arith
 some_nodes (AppThen op size once args rest) some = omega arith
 
-least_first : (fit : ℕ → Width → Bool) (terms : Terms) (ends : List Width) → 0 < terms_count terms → first_of (least fit terms ends) ≡ first_of ends
+pub least_first : (fit : ℕ → Width → Bool) (terms : Terms) (ends : List Width) → 0 < terms_count terms → first_of (least fit terms ends) ≡ first_of ends
 unfolding least
 least_first fit Nil ends some = absurd (omega arith)
 least_first fit (VarThen var constant size cond rest) ends some = refl
 least_first fit (LitThen value boolean rest) ends some = refl
 least_first fit (AppThen op size once args rest) ends some = refl
 
-roots_first : (terms : Terms) (widths : List Width) → 0 < terms_count terms → first_of (roots terms widths) ≡ first_of widths
+pub roots_first : (terms : Terms) (widths : List Width) → 0 < terms_count terms → first_of (roots terms widths) ≡ first_of widths
 roots_first Nil widths some = absurd (omega arith)
 roots_first (VarThen var constant size cond rest) widths some = refl
 roots_first (LitThen value boolean rest) widths some = refl
 roots_first (AppThen op size once args rest) widths some = refl
 
-take_first : (n : ℕ) (widths : List Width) → 0 < n → first_of (take n widths) ≡ first_of widths
+pub take_first : (n : ℕ) (widths : List Width) → 0 < n → first_of (take n widths) ≡ first_of widths
 take_first zero widths some = absurd (omega arith)
 take_first (suc n) [] some = refl
 take_first (suc n) (w ∷ widths) some = refl

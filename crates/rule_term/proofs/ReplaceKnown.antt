@@ -24,7 +24,7 @@ get_within (x ∷ list) zero within = (x, refl)
 get_within (x ∷ list) (suc i) within = get_within list i (omega arith)
 
 -- a size is known of a variable at most once
-known_once : (o : Option (Option Width)) (v w : Width) → is_known o v ≡ true → is_known o w ≡ true → v ≡ w
+pub known_once : (o : Option (Option Width)) (v w : Width) → is_known o v ≡ true → is_known o w ≡ true → v ≡ w
 known_once None v w first second = absurd (false≢true first)
 known_once (Some None) v w first second = absurd (false≢true first)
 known_once (Some (Some known)) v w first second = sym (same_width-same known v first) ∙ same_width-same known w second
@@ -64,7 +64,7 @@ one_noted_at None var width before after is e = absurd (none-some after e)
 one_noted_at (Some None) var width before after is e = subst (IsNoted var width before) (same_Some (set before var (Some width)) after e) (noted_new var width before is)
 one_noted_at (Some (Some old)) var width before after is e = let parts = if_some (same_width old width) (Some before) after e in noted_same var width old before after is parts.0 (same_Some before after parts.1)
 
-one_noted : (var : ℕ) (width : Width) (before after : Known) → noted_one var width before ≡ Some after → IsNoted var width before after
+pub one_noted : (var : ℕ) (width : Width) (before after : Known) → noted_one var width before ≡ Some after → IsNoted var width before after
 one_noted var width before after e = one_noted_at (slice_get before var) var width before after refl e
 
 -- what is noted is known
@@ -106,7 +106,7 @@ known_agree known list all = all_agree known list list all all
 abbrev pub occurs : ℕ → Width → List Occurrence → Bool
 occurs var width list = list_any (λ o. nat_eq o.var var && same_width o.width width) list
 
-picked : (p q : Occurrence → Bool) (list : List Occurrence) → list_all p list ≡ true → list_any q list ≡ true → (o : Occurrence) × (p o ≡ true) × (q o ≡ true)
+pub picked : (p q : Occurrence → Bool) (list : List Occurrence) → list_all p list ≡ true → list_any q list ≡ true → (o : Occurrence) × (p o ≡ true) × (q o ≡ true)
 picked p q [] all some = absurd (false≢true some)
 picked p q (o ∷ list) all some =
     let parts = and_parts (p o) (list_all p list) all in

@@ -19,18 +19,18 @@ use Rattle.rule_term.specs.Typings.{first_of}
 use Rattle.rule_term.specs.ReplaceLeast.{every_width}
 
 -- the unsized size is that of the result, or that of the first source, or plays no part
-abbrev first_unsized : List OpInput → Bool
+abbrev pub first_unsized : List OpInput → Bool
 first_unsized [] = false
 first_unsized (input ∷ rest) = is_none input.kind.size
 
-abbrev all_sized : List OpInput → Bool
+abbrev pub all_sized : List OpInput → Bool
 all_sized inputs = list_all (λ input. is_some input.kind.size) inputs
 
-abbrev is_determined : Option Width → List OpInput → (Width → Bool) → Bool
+abbrev pub is_determined : Option Width → List OpInput → (Width → Bool) → Bool
 is_determined out inputs allows = is_none out || (first_unsized inputs || (all_sized inputs && list_all allows every_width))
 
 -- the first case splits, and the second is tried at each opcode that is left
-determined : (op : Op) → is_determined (op_info op).out.size (op_info op).inputs (op_allows op) ≡ true
+pub determined : (op : Op) → is_determined (op_info op).out.size (op_info op).inputs (op_allows op) ≡ true
 unfolding op_info op_allows row_of
 determined Vec2 = refl
 determined op = refl
@@ -39,17 +39,17 @@ sized_at : (size : Option Width) (u v : Width) → is_some size ≡ true → siz
 sized_at None u v h = absurd (false≢true h)
 sized_at (Some size) u v h = refl
 
-unsized_at : (size : Option Width) (u : Width) → is_none size ≡ true → size_at size u ≡ u
+pub unsized_at : (size : Option Width) (u : Width) → is_none size ≡ true → size_at size u ≡ u
 unsized_at None u h = refl
 unsized_at (Some size) u h = absurd (false≢true h)
 
-sized_sources : (inputs : List OpInput) (u v : Width) → all_sized inputs ≡ true → map (λ input. size_at input.kind.size u) inputs ≡ map (λ input. size_at input.kind.size v) inputs
+pub sized_sources : (inputs : List OpInput) (u v : Width) → all_sized inputs ≡ true → map (λ input. size_at input.kind.size u) inputs ≡ map (λ input. size_at input.kind.size v) inputs
 sized_sources [] u v h = refl
 sized_sources (input ∷ rest) u v h =
     let parts = and_parts (is_some input.kind.size) (all_sized rest) h in
     ap (λ x. x ∷ map (λ input. size_at input.kind.size u) rest) (sized_at input.kind.size u v parts.0) ∙ ap (λ l. size_at input.kind.size v ∷ l) (sized_sources rest u v parts.1)
 
-every_allowed : (allows : Width → Bool) → list_all allows every_width ≡ true → (width : Width) → allows width ≡ true
+pub every_allowed : (allows : Width → Bool) → list_all allows every_width ≡ true → (width : Width) → allows width ≡ true
 every_allowed allows h W1 = (and_parts (allows W1) _ h).0
 every_allowed allows h W8 = (and_parts (allows W8) _ (and_parts (allows W1) _ h).1).0
 every_allowed allows h W16 = (and_parts (allows W16) _ (and_parts (allows W8) _ (and_parts (allows W1) _ h).1).1).0

@@ -47,7 +47,7 @@ module _ (rule : Rule) (formed : IsFormed rule) (search : List Width) (long : le
   nothing never = found ∙ ap (option_map (replace_part rule)) (none_found (size_of rule.search + size_of rule.replace) whole (λ widths count h. never widths h))
 
   -- the variables of the search side have places, and those of the replacement stand there
-  room : list_all (λ var. nat_lt var 16) (map (λ o. o.var) searched) ≡ true
+  pub room : list_all (λ var. nat_lt var 16) (map (λ o. o.var) searched) ≡ true
   room =
       ap (list_all (λ var. nat_lt var 16)) (vars_of-occurrences rule.search search)
       ∙ all_below rule.vars 16 (vars_of rule.search) formed.few_vars (numbered_below 0 rule.vars (vars_of rule.search) formed.numbered).1

@@ -224,7 +224,7 @@ fn may_ask_for_one_use(side: Side, once: bool) -> bool
 
 /// Whether the opcode may stand in a rule.
 #[tactic(auto, unfolding(crate::specs::Formed::may_stand))]
-fn may_stand(op: Op) -> bool
+pub fn may_stand(op: Op) -> bool
     ensures { result ≡ may_stand op }
 {
     if let Op::Mov = op {

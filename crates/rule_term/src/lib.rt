@@ -19,9 +19,11 @@ mod when;
 mod width_set;
 
 pub use cond::{Cond, cond_holds};
-pub use formed::formed_is_tested;
+pub use formed::{formed_is_tested, may_stand};
+pub use nodes::nodes_in;
 pub use replace::replace_widths;
 pub use rule::Rule;
+pub use search_sizes::{has_size, note_term, same_width, size_at};
 pub use side::{Side, eval_term};
 pub use table::Table;
 pub use term::{Term, Terms};
@@ -29,3 +31,4 @@ pub use typing::{Typing, Widths};
 pub use value::reduced;
 pub use variant::{RuleVariant, variants_keep_values};
 pub use when::{Names, Options, When};
+pub use width_set::{Known, WidthSet, demanded, sizes_of_term, unsized_for, usable};

@@ -9,7 +9,7 @@ use crate::term::Term;
 /// How many nodes the term has, which a number of 64 bits can say.
 #[cycle(nodes)]
 #[tactic(auto, using(crate::proofs::NodesLemmas::size_steps))]
-pub(crate) fn nodes_in(term: &Term) -> usize
+pub fn nodes_in(term: &Term) -> usize
     requires small { size_of (terms_of (term.now ∷ [])) < 2 ^ 64 }
     ensures count { result ≡ size_of (terms_of (term.now ∷ [])) }
 {

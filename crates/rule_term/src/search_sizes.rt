@@ -13,14 +13,14 @@ use crate::width_set::{Known, demanded};
 use nir_ops::{Op, OpInput, Width, allowed, info};
 
 /// Whether two sizes are one.
-pub(crate) fn same_width(a: Width, b: Width) -> bool
+pub fn same_width(a: Width, b: Width) -> bool
     ensures { result ≡ same_width a b }
 {
     a.bits() == b.bits()
 }
 
 /// Whether a node at which perhaps a size is written may have this one.
-pub(crate) fn has_size(size: Option<Width>, width: Width) -> bool
+pub fn has_size(size: Option<Width>, width: Width) -> bool
     ensures { result ≡ has_size size width }
 {
     match size {
@@ -46,7 +46,7 @@ pub(crate) fn literal_fits(value: i128, boolean: bool, width: Width) -> bool
 }
 
 /// The size of a source or result where the unsized ones have this size.
-pub(crate) fn size_at(size: Option<Width>, width: Width) -> Width
+pub fn size_at(size: Option<Width>, width: Width) -> Width
     ensures { result ≡ size_at size width }
 {
     match size {
@@ -165,10 +165,11 @@ fn note(known: Known, var: u32, width: Width) -> Option<Known>
     }
 }
 
-/// Notes the sizes of the variables of the term; None where one has two.
+/// Notes the sizes of the variables of the term, whose nodes have these sizes; None where there is no place for a variable, or
+/// where one has two sizes.
 #[cycle(note)]
 #[tactic(auto, using(crate::proofs::NodesLemmas::size_steps, crate::proofs::ReplaceSteps::note_steps))]
-pub(crate) fn note_term(term: &Term, widths: &[Width], known: Known) -> Option<Known>
+pub fn note_term(term: &Term, widths: &[Width], known: Known) -> Option<Known>
     requires enough { size_of (terms_of (term.now ∷ [])) ≤ length widths.now }
     ensures { result ≡ noted (occurrences (terms_of (term.now ∷ [])) widths.now) known }
 {

@@ -1,6 +1,6 @@
-//! Sets of sizes: those that the root of a term can have where the sizes of its variables are known.
+//! Sets of sizes, and those that the root of a term can have where the sizes of its variables are known.
 
-ghost use Rattle.std.specs.Prelude.{◌≡◌, ◌&&◌, [], ◌∷◌, map, is_some};
+ghost use Rattle.std.specs.Prelude.{◌≡◌, ◌≤◌, ◌&&◌, true, false, [], ◌∷◌, filter, length, map, is_some, if◌then◌else◌};
 ghost use Rattle.nir_ops.specs.declared.width.Width.{Width as Size};
 ghost use Rattle.std.proofs.Common.{drop};
 ghost use Rattle.std.specs.List.{find};
@@ -15,21 +15,21 @@ use crate::term::Term;
 use nir_ops::{Op, OpInput, Width, allowed, info};
 
 /// The size of each variable by its number, as far as it is known.
-pub(crate) type Known = [Option<Width>; 16];
+pub type Known = [Option<Width>; 16];
 
 /// A set of sizes.
 #[derive(Clone, Copy)]
-pub(crate) struct WidthSet {
-    w1: bool,
-    w8: bool,
-    w16: bool,
-    w32: bool,
-    w64: bool,
+pub struct WidthSet {
+    pub w1: bool,
+    pub w8: bool,
+    pub w16: bool,
+    pub w32: bool,
+    pub w64: bool,
 }
 
 impl WidthSet {
     /// Whether the set has the size.
-    pub(crate) fn has(self, width: Width) -> bool
+    pub fn has(self, width: Width) -> bool
         ensures { result ≡ set_has self width }
     {
         match width {
@@ -40,6 +40,98 @@ impl WidthSet {
             Width::W64 => self.w64,
         }
     }
+
+    /// How many sizes the set has.
+    pub fn len(self) -> usize
+        ensures count { result ≡ length (filter (set_has self) every_width) }
+        ensures few { result ≤ 5 }
+    {
+        one_if(self.w1) + one_if(self.w8) + one_if(self.w16) + one_if(self.w32) + one_if(self.w64)
+    }
+
+    /// The sizes that both sets have.
+    pub fn and(self, other: WidthSet) -> WidthSet
+        ensures { result ≡ set_of (λ width. set_has self width && set_has other width) }
+    {
+        WidthSet {
+            w1: self.w1 && other.w1,
+            w8: self.w8 && other.w8,
+            w16: self.w16 && other.w16,
+            w32: self.w32 && other.w32,
+            w64: self.w64 && other.w64,
+        }
+    }
+
+    /// All sizes.
+    pub fn full() -> WidthSet
+        ensures { result ≡ set_of (λ width. true) }
+    {
+        WidthSet {
+            w1: true,
+            w8: true,
+            w16: true,
+            w32: true,
+            w64: true,
+        }
+    }
+
+    /// No size.
+    pub fn empty() -> WidthSet
+        ensures { result ≡ set_of (λ width. false) }
+    {
+        WidthSet {
+            w1: false,
+            w8: false,
+            w16: false,
+            w32: false,
+            w64: false,
+        }
+    }
+
+    /// The sizes of a node at which perhaps a size is written.
+    pub fn written(size: Option<Width>) -> WidthSet
+        ensures { result ≡ set_of (has_size size) }
+    {
+        WidthSet {
+            w1: has_size(size, Width::W1),
+            w8: has_size(size, Width::W8),
+            w16: has_size(size, Width::W16),
+            w32: has_size(size, Width::W32),
+            w64: has_size(size, Width::W64),
+        }
+    }
+
+    /// The sizes that the number fits.
+    pub fn of_literal(value: i128, boolean: bool) -> WidthSet
+        ensures { result ≡ set_of (literal_fits value boolean) }
+    {
+        WidthSet {
+            w1: literal_fits(value, boolean, Width::W1),
+            w8: literal_fits(value, boolean, Width::W8),
+            w16: literal_fits(value, boolean, Width::W16),
+            w32: literal_fits(value, boolean, Width::W32),
+            w64: literal_fits(value, boolean, Width::W64),
+        }
+    }
+
+    /// The unsized sizes at which the opcode works.
+    pub fn of_op(op: Op) -> WidthSet
+        ensures { result ≡ set_of (op_allows op) }
+    {
+        WidthSet {
+            w1: allowed(op, Width::W1),
+            w8: allowed(op, Width::W8),
+            w16: allowed(op, Width::W16),
+            w32: allowed(op, Width::W32),
+            w64: allowed(op, Width::W64),
+        }
+    }
+}
+
+fn one_if(has: bool) -> usize
+    ensures { result ≡ (if has then 1 else 0) }
+{
+    if has { 1 } else { 0 }
 }
 
 /// Whether the variable has the size.
@@ -73,32 +165,6 @@ fn sizes_of_var(known: &Known, var: u32, size: Option<Width>) -> WidthSet
         w16: var_may(known, var, size, Width::W16),
         w32: var_may(known, var, size, Width::W32),
         w64: var_may(known, var, size, Width::W64),
-    }
-}
-
-/// The sizes that the number fits.
-fn sizes_of_literal(value: i128, boolean: bool) -> WidthSet
-    ensures { result ≡ set_of (literal_fits value boolean) }
-{
-    WidthSet {
-        w1: literal_fits(value, boolean, Width::W1),
-        w8: literal_fits(value, boolean, Width::W8),
-        w16: literal_fits(value, boolean, Width::W16),
-        w32: literal_fits(value, boolean, Width::W32),
-        w64: literal_fits(value, boolean, Width::W64),
-    }
-}
-
-/// The unsized sizes at which the opcode works.
-fn sizes_of_op(op: Op) -> WidthSet
-    ensures { result ≡ set_of (op_allows op) }
-{
-    WidthSet {
-        w1: allowed(op, Width::W1),
-        w8: allowed(op, Width::W8),
-        w16: allowed(op, Width::W16),
-        w32: allowed(op, Width::W32),
-        w64: allowed(op, Width::W64),
     }
 }
 
@@ -137,7 +203,7 @@ fn gives(op: Op, set: WidthSet, dst: Width, free: Width) -> bool
 }
 
 /// The least unsized size of the set at which the result of the opcode has the size.
-pub(crate) fn unsized_for(op: Op, set: WidthSet, dst: Width) -> Option<Width>
+pub fn unsized_for(op: Op, set: WidthSet, dst: Width) -> Option<Width>
     ensures { result ≡ find (λ free. set_has set free && same_width (result_width op free) dst) every_width }
 {
     if gives(op, set, dst, Width::W1) {
@@ -182,7 +248,7 @@ fn sizes_of_result(op: Op, set: WidthSet, size: Option<Width>) -> WidthSet
 }
 
 /// The size that an opcode has for a source at a place, if it is not unsized: past the end it is 1.
-pub(crate) fn demanded(inputs: &[OpInput], at: usize) -> Option<Width>
+pub fn demanded(inputs: &[OpInput], at: usize) -> Option<Width>
     ensures { (free : Size) → size_at result free ≡ first_of (drop at (map (λ input. size_at input.kind.size free) inputs.now)) }
 {
     match inputs.get(at) {
@@ -191,14 +257,15 @@ pub(crate) fn demanded(inputs: &[OpInput], at: usize) -> Option<Width>
     }
 }
 
-/// The sizes that the root of the term can have.
+/// The sizes that the root of the term can have, where variables have the sizes that are known. It takes no memory, and
+/// visits each node once.
 #[cycle(sizes)]
-pub(crate) fn sizes_of_term(term: &Term, known: &Known) -> WidthSet
+pub fn sizes_of_term(term: &Term, known: &Known) -> WidthSet
     ensures { result ≡ set_of (λ width. can (knows known.now) (terms_of (term.now ∷ [])) (width ∷ [])) }
 {
     match term {
         Term::Var { var, size, .. } => sizes_of_var(known, *var, *size),
-        Term::Lit { value, boolean } => sizes_of_literal(*value, *boolean),
+        Term::Lit { value, boolean } => WidthSet::of_literal(*value, *boolean),
         Term::App { op, size, args, .. } => {
             let set = usable(*op, args.as_slice(), known);
             sizes_of_result(*op, set, *size)
@@ -208,12 +275,12 @@ pub(crate) fn sizes_of_term(term: &Term, known: &Known) -> WidthSet
 
 /// The unsized sizes at which the opcode works and its sources can have their sizes.
 #[cycle(sizes)]
-pub(crate) fn usable(op: Op, args: &[Term], known: &Known) -> WidthSet
+pub fn usable(op: Op, args: &[Term], known: &Known) -> WidthSet
     ensures { result ≡ set_of (λ free. op_allows op free && can (knows known.now) (terms_of args.now) (source_widths op free)) }
 {
     let row = info(op);
     let inputs = row.inputs.as_slice();
-    let mut set = sizes_of_op(op);
+    let mut set = WidthSet::of_op(op);
     for (at, term) in args.iter().enumerate() {
         let sizes = sizes_of_term(term, known);
         set = narrowed(set, demanded(inputs, at), sizes);

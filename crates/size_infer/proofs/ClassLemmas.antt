@@ -9,12 +9,12 @@ use Rattle.nir_ops.specs.declared.width.Width.{Width}
 use Rattle.size_laws.specs.Places as place
 use Rattle.size_laws.specs.Places.{all_within, allowed, classes_from, merge, merged_by, passes_at, redirect, within}
 use Rattle.size_laws.specs.ClassesLaws.{IsNaming, merge_naming, same_or_not}
-use Rattle.size_infer.specs.Sets.{set_has, set_of}
+use Rattle.rule_term.specs.ReplaceLeast.{set_has, set_of}
 use Rattle.size_infer.specs.Meant.{meant}
 use Rattle.size_infer.specs.Options.{listed, set_at}
 use Rattle.size_infer.specs.declared.size_rule.SizeRule.{SizeRule}
 use Rattle.size_infer.specs.declared.size_rule.SizeRule.TheVariants as code
-use Rattle.size_infer.specs.declared.width_set.WidthSet.{WidthSet}
+use Rattle.rule_term.specs.declared.width_set.WidthSet.{WidthSet}
 use Rattle.size_infer.proofs.SetLemmas.{set_has-of}
 
 -- a node of the list, at another default

@@ -5,11 +5,11 @@ use Rattle.std.proofs.lemmas.List.{map-append}
 use Rattle.nir_ops.specs.declared.width.Width.{Width}
 use Rattle.nir_ops.specs.declared.width.Width.TheVariants.{W1, W8, W16, W32, W64}
 use Rattle.size_laws.specs.Places as place
-use Rattle.size_infer.specs.Sets.{set_has, set_of}
+use Rattle.rule_term.specs.ReplaceLeast.{set_has, set_of}
 use Rattle.size_infer.specs.Meant.{meant}
 use Rattle.size_infer.specs.declared.size_rule.SizeRule.{SizeRule}
 use Rattle.size_infer.specs.declared.size_rule.SizeRule.TheVariants as code
-use Rattle.size_infer.specs.declared.width_set.WidthSet.{WidthSet}
+use Rattle.rule_term.specs.declared.width_set.WidthSet.{WidthSet}
 
 pub set_has-of : (test : Width → Bool) (width : Width) → set_has (set_of test) width ≡ test width
 set_has-of test W1 = refl

@@ -8,11 +8,11 @@ use Rattle.nir_ops.specs.Opcodes.{op_info, op_allows}
 use Rattle.rule_term.specs.Typings.{has_size}
 use Rattle.size_laws.specs.Places as place
 use Rattle.size_laws.specs.NodeRules.{op_rules, source_rules, unsized_place}
-use Rattle.size_infer.specs.Sets.{set_of}
+use Rattle.rule_term.specs.ReplaceLeast.{set_of}
 use Rattle.size_infer.specs.Meant.{meant, never}
 use Rattle.size_infer.specs.declared.size_rule.SizeRule.{SizeRule}
 use Rattle.size_infer.specs.declared.size_rule.SizeRule.TheVariants as code
-use Rattle.size_infer.specs.declared.width_set.WidthSet.{WidthSet}
+use Rattle.rule_term.specs.declared.width_set.WidthSet.{WidthSet}
 use Rattle.size_infer.proofs.SetLemmas.{only, pushed, twice}
 
 abbrev pub size_in : OpInput → Option Width

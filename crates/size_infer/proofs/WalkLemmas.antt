@@ -14,12 +14,12 @@ use Rattle.rule_term.specs.Typings.{size_of, has_size, literal_fits}
 use Rattle.size_laws.specs.Places as place
 use Rattle.size_laws.specs.NodeRules.{op_rules, root_places, rules_of, var_places}
 use Rattle.size_laws.specs.ThensLaws.{rules_of-then, root_places-then, var_places-then}
-use Rattle.size_infer.specs.Sets.{set_of}
+use Rattle.rule_term.specs.ReplaceLeast.{set_of}
 use Rattle.size_infer.specs.Meant.{meant, spot_of}
 use Rattle.size_infer.specs.declared.size_rule.SizeRule.{SizeRule}
 use Rattle.size_infer.specs.declared.size_rule.SizeRule.TheVariants as code
 use Rattle.size_infer.specs.declared.size_rule.Spot.{Spot}
-use Rattle.size_infer.specs.declared.width_set.WidthSet.{WidthSet}
+use Rattle.rule_term.specs.declared.width_set.WidthSet.{WidthSet}
 use Rattle.size_infer.proofs.SetLemmas.{only, pushed, twice}
 
 module _ (t : Term) (var : ℕ) (constant : Bool) (size : Option Width) (cond : Option Cond) (is : t ≡ term.Var var constant size cond) where

@@ -1,4 +1,3 @@
-pub mod Sets
 pub mod Meant
 pub mod Options
 pub mod Grown

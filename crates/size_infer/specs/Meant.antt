@@ -2,7 +2,7 @@
 use Rattle.std.specs.Prelude.{ℕ, false, cond, List, [], ◌∷◌, nat_eq}
 use Rattle.size_laws.specs.Places as place
 use Rattle.size_laws.specs.NodeRules.{VarPlace}
-use Rattle.size_infer.specs.Sets.{set_has}
+use Rattle.rule_term.specs.ReplaceLeast.{set_has}
 use Rattle.size_infer.specs.declared.size_rule.SizeRule.{SizeRule}
 use Rattle.size_infer.specs.declared.size_rule.SizeRule.TheVariants as code
 use Rattle.size_infer.specs.declared.size_rule.Spot.{Spot}

@@ -5,9 +5,9 @@ use Rattle.nir_ops.specs.declared.width.Width.{Width}
 use Rattle.size_laws.specs.Places.{choices, count, fits, grown, passes_at, product}
 use Rattle.size_infer.specs.Meant.{meant}
 use Rattle.size_infer.specs.declared.size_rule.SizeRule.{SizeRule}
-use Rattle.size_infer.specs.declared.width_set.WidthSet.{WidthSet}
+use Rattle.rule_term.specs.declared.width_set.WidthSet.{WidthSet}
 use Rattle.size_infer.specs.declared.classes.Classes.{Classes}
-use Rattle.size_infer.specs.Sets.{set_has, set_of}
+use Rattle.rule_term.specs.ReplaceLeast.{set_has, set_of}
 
 -- the first node of a node's class: a node behind the list is its own class
 abbrev pub listed : List ℕ → ℕ → ℕ

@@ -8,7 +8,7 @@ ghost use Rattle.size_laws.specs.ClassesLaws.{IsNaming};
 ghost use Rattle.size_laws.specs.Places.{all_within, allowed, classes, merge, merged_by, redirect, within};
 
 use crate::size_rule::SizeRule;
-use crate::width_set::WidthSet;
+use rule_term::WidthSet;
 
 /// Nodes that have one size in every typing are a class, named by its first node. A rule has at most 98 nodes, since a
 /// side of 16 opcodes has at most 49.

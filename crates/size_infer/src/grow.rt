@@ -7,10 +7,9 @@ ghost use Rattle.size_infer.specs.Options.{fits_in, grown_in, product_in};
 ghost use Rattle.size_laws.specs.Places.{longer};
 
 use crate::classes::Classes;
-use crate::width_set::same_width;
 use nir_host::{OutOfMemory, Seq};
 use nir_ops::Width;
-use rule_term::Typing;
+use rule_term::{Typing, same_width};
 use std::alloc::Global;
 
 /// Typings of a rule in lexicographic order, 1 bit before 8, 16, 32 and 64.

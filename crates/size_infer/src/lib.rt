@@ -10,7 +10,6 @@ mod options;
 mod size_rule;
 mod sources;
 mod walk;
-mod width_set;
 
 pub use fault::SizeFault;
 pub use grow::Typings;

@@ -5,9 +5,9 @@ ghost use Rattle.size_infer.specs.Meant.{link_spots, meant, next_spot};
 ghost use Rattle.size_laws.specs.NodeRules.{source_rule};
 ghost use Rattle.std.specs.Prelude.{OnOk, map, ◌++◌};
 
-use crate::width_set::WidthSet;
 use nir_host::{OutOfMemory, Seq};
 use nir_ops::Width;
+use rule_term::WidthSet;
 
 /// Two nodes have one size, or the size of a node is in a set. Nodes are named by their places, the search side first.
 #[derive(Clone, Copy, Drop)]

@@ -5,9 +5,9 @@ ghost use Rattle.size_infer.specs.Meant.{meant, never};
 ghost use Rattle.size_laws.specs.NodeRules.{op_rules, source_rule, source_rules, unsized_place};
 
 use crate::size_rule::{SizeRule, SizeRules};
-use crate::width_set::WidthSet;
 use nir_host::OutOfMemory;
 use nir_ops::{Op, OpInput, Width, info};
+use rule_term::WidthSet;
 
 /// Adds what the opcode at a place asks of it and of its sources, whose places these are.
 pub(crate) fn add_op(

@@ -9,9 +9,8 @@ ghost use Rattle.size_laws.specs.NodeRules.{root_places, rules_of, var_places};
 
 use crate::size_rule::{SizeRule, SizeRules, Spot, Spots, add_links};
 use crate::sources::add_op;
-use crate::width_set::WidthSet;
 use nir_host::{OutOfMemory, Seq};
-use rule_term::{Rule, Term};
+use rule_term::{Rule, Term, WidthSet};
 use std::alloc::Global;
 
 /// All that a rule asks of the sizes of its nodes, and how many nodes each side has.

@@ -13,7 +13,7 @@ sizes_of_term-returns-in-Var t c =
 
 pub sizes_of_term-returns-in-Lit : goal.sizes_of_term-returns-in-Lit
 sizes_of_term-returns-in-Lit t c =
-    c.sizes_of_literal.ensures
+    c.of_literal.ensures
     ∙ ap (λ v. set_of (literal_fits v c.in-Lit.boolean)) (to_z-of_z {w = w128} {z = c.in-Lit.value} (search rules))
     ∙ set_of-same _ _ (λ width. sym (can-lit (knows c.args.known.now) c.args.term.now c.in-Lit.value c.in-Lit.boolean width c.in-Lit.is))
 

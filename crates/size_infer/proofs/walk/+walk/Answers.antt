@@ -8,7 +8,7 @@ use Rattle.rule_term.specs.Typings.{has_size, literal_fits, size_of}
 use Rattle.size_laws.specs.NodeRules.{root_places, rules_of, var_places}
 use Rattle.size_laws.specs.Places as place
 use Rattle.size_infer.specs.Meant.{meant, spot_of}
-use Rattle.size_infer.specs.Sets.{set_of}
+use Rattle.rule_term.specs.ReplaceLeast.{set_of}
 use Rattle.size_infer.specs.declared.size_rule.SizeRule.TheVariants as code
 use Rattle.size_infer.proofs.SetLemmas.{only, pushed, stepped}
 use Rattle.size_infer.proofs.WalkLemmas.{app_rules, roots-drop, root_places-one, rules_of-drop, rules_of-lit, rules_of-var, size_of-app, size_of-drop, size_of-lit, size_of-var, spots-app, spots-drop, spots-lit, spots-var}
