@@ -1,7 +1,9 @@
+pub mod Asking
 pub mod ByLawLaws
 pub mod Derivations
 pub mod DerivationsLaws
 pub mod FineLaws
+pub mod Known
 pub mod LawStepLaws
 pub mod LawTable
 pub mod LawsHold
@@ -10,10 +12,14 @@ pub mod Matching
 pub mod MatchingLaws
 pub mod Nodes
 pub mod NodesLaws
+pub mod Readings
+pub mod ReadingsLaws
 pub mod SameLaws
+pub mod Settings
 pub mod SidesLaws
 pub mod Sound
 pub mod StandingLaws
+pub mod Stepping
 pub mod StepsLaws
 pub mod TermsLaws
 pub mod Views

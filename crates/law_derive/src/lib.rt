@@ -7,16 +7,25 @@
 ghost use Rattle.law_derive.specs.LawsHold.{LawsHold};
 ghost use Rattle.law_derive.specs.Sound.{DerivationsAreSound};
 
+mod binding;
+mod calc;
 mod check;
+mod cond;
 mod fault;
 mod filling;
 mod law;
+mod letters;
 mod matching;
 mod node;
 mod parts;
+mod reading;
 mod same;
+mod setting;
 mod side;
+mod sizes;
+mod step;
 mod table;
+mod terms;
 
 pub use check::check_derivation;
 pub use fault::DeriveFault;

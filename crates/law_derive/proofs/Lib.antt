@@ -1,0 +1,5 @@
+pub mod AskingLemmas
+pub mod BindingLemmas
+pub mod LetterLemmas
+pub mod StepLemmas
+pub mod TermLemmas
