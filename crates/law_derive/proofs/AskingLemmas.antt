@@ -39,3 +39,16 @@ asks-drop asked sought list i t within at =
     ∙ any_append (piece_asks asked sought) (pieces (terms_of (t ∷ []))) (pieces (terms_of (drop (i + 1) list)))
 
 pub ruleset asks_steps = (asks-var, asks-lit, asks-app, asks-drop)
+
+-- of a term that is one of these
+module _ (asked : Cond) (sought : ℕ) (t : Term) where
+  pub at-var : (var : ℕ) (constant : Bool) (size : Option Width) (cond : Option Cond) → t ≡ term.Var var constant size cond
+      → list_any (piece_asks asked sought) (pieces (terms_of (t ∷ []))) ≡ (nat_eq var sought && is_cond asked cond)
+  at-var var constant size cond is = ap (λ x. list_any (piece_asks asked sought) (pieces (terms_of (x ∷ [])))) is ∙ asks-var asked sought var constant size cond
+
+  pub at-lit : (value : ℤ) (boolean : Bool) → t ≡ term.Lit value boolean → list_any (piece_asks asked sought) (pieces (terms_of (t ∷ []))) ≡ false
+  at-lit value boolean is = ap (λ x. list_any (piece_asks asked sought) (pieces (terms_of (x ∷ [])))) is ∙ asks-lit asked sought value boolean
+
+  pub at-app : (op : Op) (size : Option Width) (once : Bool) (args : List Term) → t ≡ term.App op size once args
+      → list_any (piece_asks asked sought) (pieces (terms_of (t ∷ []))) ≡ list_any (piece_asks asked sought) (pieces (terms_of args))
+  at-app op size once args is = ap (λ x. list_any (piece_asks asked sought) (pieces (terms_of (x ∷ [])))) is ∙ asks-app asked sought op size once args

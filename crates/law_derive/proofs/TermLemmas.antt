@@ -1,5 +1,5 @@
 -- The nodes of terms at their sizes, and the sizes behind theirs, by the first of them.
-use Rattle.std.proofs.Common.{◌≡◌, ℕ, suc, ◌+◌, ◌<◌, ℤ, Bool, Option, List, [], ◌∷◌, ◌++◌, length, get_or, drop, refl, sym, ap, ◌∙◌, append_assoc}
+use Rattle.std.proofs.Common.{◌≡◌, ℕ, suc, ◌+◌, ◌<◌, ℤ, Bool, Option, List, [], ◌∷◌, ◌++◌, length, get_or, drop, refl, sym, ap, ◌∙◌, append_assoc, arith}
 use Rattle.std.proofs.lemmas.List.{append-nil, drop-drop}
 use Rattle.nir_ops.specs.declared.op.Op.{Op}
 use Rattle.nir_ops.specs.declared.width.Width.{Width}
@@ -38,7 +38,9 @@ size-lit value boolean = ap size_of (terms_of-lit value boolean)
 
 pub behind-app : (op : Op) (size : Option Width) (once : Bool) (args : List Term) (widths : List Width)
     → drop (size_of (terms_of (term.App op size once args ∷ []))) widths ≡ drop (size_of (terms_of args)) (drop 1 widths)
-behind-app op size once args widths = ?
+behind-app op size once args widths =
+    let e : size_of (AppThen op size once (terms_of args) Nil) ≡ suc (size_of (terms_of args)) = omega arith in
+    ap (λ n. drop n widths) (ap size_of (terms_of-app op size once args) ∙ e) ∙ sym (drop_one (size_of (terms_of args)) widths)
 
 pub ruleset node_steps = (nodes-var, nodes-lit, nodes-app, size-var, size-lit, behind-app)
 

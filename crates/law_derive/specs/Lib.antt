@@ -2,6 +2,7 @@ pub mod Asking
 pub mod ByLawLaws
 pub mod Derivations
 pub mod DerivationsLaws
+pub mod FillingLaws
 pub mod FineLaws
 pub mod Known
 pub mod LawStepLaws

@@ -10,6 +10,7 @@ use Rattle.law_derive.specs.declared.node.Node.{Node}
 use Rattle.law_derive.specs.declared.node.Kind.{Kind}
 use Rattle.law_derive.specs.declared.node.Kind.TheVariants.{App, Var, Lit}
 use Rattle.law_derive.specs.Derivations.{Setting, bound, bound_letter, bound_others, by_law, complete, expr_nodes, from_at, has_letter, letter_named, letter_size, matched, read_at, size_of_expr, size_read, with_letter}
+use Rattle.law_derive.specs.declared.fault.StepFault.TheVariants.{NoMatch}
 use Rattle.law_derive.specs.LawTable.{Law}
 use Rattle.law_derive.specs.Matching.{Filling, found, match_side}
 use Rattle.law_derive.specs.Readings.{before, expr_of, exprs_of, fill_all, fill_one, fill_with, filled_at, made_of, read_of}
@@ -68,6 +69,13 @@ module _ (at : Setting) (law : Law) (rev : Bool) (bindings : List Binding) where
 
   pub by_law_is : (term : List Node) → made_of at law rev bindings (read_of law rev term (size_read at law rev bindings term)) ≡ by_law at law rev bindings term
   by_law_is term = sym (read_is term (size_read at law rev bindings term))
+
+  pub by_law_none : (term : List Node) → None ≡ read_of law rev term (size_read at law rev bindings term) → Err NoMatch ≡ by_law at law rev bindings term
+  by_law_none term none = ap (made_of at law rev bindings) none ∙ by_law_is term
+
+  pub by_law_from : (term : List Node) (width : Width) (start : Filling) (own : Option Filling) → Some (width, start) ≡ read_of law rev term (size_read at law rev bindings term)
+      → fill_with law (exprs_of at width bindings) start ≡ own → complete at law rev width own ≡ by_law at law rev bindings term
+  by_law_from term width start own read given = ap (complete at law rev width) (sym given) ∙ ap (made_of at law rev bindings) read ∙ by_law_is term
 
 -- ---- the size of an expression
 

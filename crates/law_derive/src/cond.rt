@@ -34,7 +34,7 @@ pub(crate) fn cond_met(
 
 fn term_meets(setting: &Setting<'_>, cond: Cond, term: Option<&[Node]>) -> bool
     requires { SomeStands (setting_says setting.now) (option_map (λ nodes. nodes.now) term) }
-    ensures { result ≡ term_meets (setting_says setting.now) cond (option_map (λ nodes. nodes.now) term) }
+    ensures { result ≡ term_meets (setting_says setting.now) cond (option_map (λ nodes. nodes.now) term.entry) }
 {
     let Some(nodes) = term else {
         return false;
@@ -50,8 +50,9 @@ fn kind_meets(setting: &Setting<'_>, cond: Cond, node: Node) -> bool
     requires { NodeStands (setting_says setting.now) node }
     ensures { result ≡ kind_meets (setting_says setting.now) cond node.width node.kind }
 {
+    let rule = setting.rule;
     match node.kind {
-        Kind::Var { var } => asks_in(&setting.rule.search, cond, var),
+        Kind::Var { var } => asks_in(&rule.search, cond, var),
         Kind::Lit { word } => cond_holds(cond, node.width, word),
         Kind::App { .. } => false,
     }

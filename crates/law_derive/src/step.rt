@@ -70,7 +70,6 @@ pub(crate) fn step_made(
 }
 
 /// The law of the number. They have those from 1 on.
-#[tactic(auto, using(crate::proofs::StepLemmas::numbered_steps))]
 fn law_numbered(number: u32) -> Option<&'static Law>
     ensures value { option_map (λ law. law_says law.now) result ≡ law_numbered number }
     ensures fits { IfSome result (λ law. law_fits (law_says law.now) ≡ true) }
@@ -201,7 +200,8 @@ fn by_law(
     if !fill_all(law, bounds.as_slice(), &mut filling)? {
         return Ok(Err(StepFault::NoMatch));
     }
-    complete(alloc, setting, law, rev, width, filling.as_slice())
+    let made = complete(alloc, setting, law, rev, width, filling.as_slice())?;
+    Ok(made)
 }
 
 /// The other side of the law with what its letters stand for.

@@ -58,7 +58,8 @@ fn push_term<'a>(
                 kind: Kind::App { op: *op },
                 width,
             })?;
-            push_terms(nodes, args.as_slice(), behind)
+            let behind = push_terms(nodes, args.as_slice(), behind)?;
+            Ok(behind)
         }
     }
 }
