@@ -11,7 +11,7 @@ use Rattle.nir_ops.specs.Opcodes.{op_info}
 use Rattle.nir_ops.specs.Width.{width_bits}
 use Rattle.op_eval.specs.Calls.{same_width}
 use Rattle.op_eval.specs.Sizes.{same_width-same, same_width-refl}
-use Rattle.rule_term.specs.Formed.{may_stand, search_piece_formed, replace_piece_formed, literal_formed}
+use Rattle.rule_term.specs.Formed.{IsFormed, may_stand, search_piece_formed, replace_piece_formed, literal_formed}
 use Rattle.rule_term.specs.Holds.{are_met, are_words, is_met, is_word}
 use Rattle.rule_term.specs.Pieces.{Piece, VarPiece, LitPiece, AppPiece, pieces}
 use Rattle.rule_term.specs.Rule.{Rule}
@@ -162,6 +162,17 @@ module _ (at : Setting) where
   derived_keeps (step ∷ steps) k nodes stands none words are =
       one_step step steps (derived_keeps steps) k nodes stands (step_made at step nodes) refl none words are
 
+-- the search side is a term over the variables of the rule
+pub search_stands : (rule : Rule) (widths : List Width) → IsFormed rule → is_typing rule widths ≡ true
+    → IsTermAt (record { rule = rule; widths = widths }) (nodes_of rule.search (search_part rule widths))
+search_stands rule widths formed typing =
+    let at : Setting = record { rule = rule; widths = widths } in
+    record {
+      one = subst (λ n. AreTerms n (nodes_of rule.search (search_part rule widths))) formed.one_search
+          (have_terms rule.search (search_part rule widths) (search_sources (pieces rule.search) formed.search));
+      stand = nodes_stand at rule.search (search_part rule widths) (sized_all at (standing at) (sizes_known rule widths typing));
+    }
+
 -- both sides are equal at the typing
 pub derivations_are_sound : DerivationsAreSound
 unfolding derivation_fault
@@ -169,10 +180,7 @@ derivations_are_sound rule widths steps formed typing none words count are met =
     let at : Setting = record { rule = rule; widths = widths } in
     let search = search_sources (pieces rule.search) formed.search in
     let replace = replace_sources rule.vars (pieces rule.replace) formed.replace in
-    let stands : IsTermAt at (nodes_of rule.search (search_part rule widths)) = record {
-      one = subst (λ n. AreTerms n (nodes_of rule.search (search_part rule widths))) formed.one_search (have_terms rule.search (search_part rule widths) search);
-      stand = nodes_stand at rule.search (search_part rule widths) (sized_all at (standing at) (sizes_known rule widths typing));
-    } in
+    let stands = search_stands rule widths formed typing in
     sym (values_are words rule.search (search_part rule widths) search)
     ∙ derived_keeps at steps 0 (nodes_of rule.search (search_part rule widths)) stands none words (words_met rule widths words typing are met)
     ∙ values_are words rule.replace (replace_part rule widths) replace

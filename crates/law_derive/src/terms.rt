@@ -27,7 +27,7 @@ pub(crate) fn nodes_of(
 /// Adds the nodes of the term, and answers the sizes behind its own.
 #[cycle(nodes)]
 #[tactic(auto, using(crate::proofs::TermLemmas::node_steps))]
-fn push_term<'a>(
+pub(crate) fn push_term<'a>(
     nodes: &mut Seq<Node>,
     term: &Term,
     widths: &'a [Width],
