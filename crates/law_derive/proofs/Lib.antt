@@ -1,2 +1,7 @@
+pub mod AskingLemmas
+pub mod BindingLemmas
 pub mod CalcLemmas
+pub mod LetterLemmas
+pub mod StepLemmas
+pub mod TermLemmas
 pub mod TermLists

@@ -53,7 +53,7 @@ among_is sizes (Some own) width is =
     ⊎_elim (λ yes. let e : own ≡ width = cc in subst (λ w. list_any (same_width w) sizes ≡ true) e yes.0) (λ no. absurd (let never = no.1 in cc))
     (chosen (list_any (same_width own) sizes) (Some own) None (Some width) is)
 
-size_among : (at : Setting) (law : Law) (rev : Bool) (bindings : List Binding) (term : List Node) (width : Width) → size_read at law rev bindings term ≡ Some width
+pub size_among : (at : Setting) (law : Law) (rev : Bool) (bindings : List Binding) (term : List Node) (width : Width) → size_read at law rev bindings term ≡ Some width
     → list_any (same_width width) (law_sizes law) ≡ true
 size_among at law rev bindings term width is =
     ⊎_elim
@@ -75,7 +75,7 @@ enough_bits false W64 is = lit≤ tt
 
 -- ---- the sides of a law that fits
 
-passes_among : (test : Width → Bool) (list : List Width) (width : Width) → list_all test list ≡ true → list_any (same_width width) list ≡ true → test width ≡ true
+pub passes_among : (test : Width → Bool) (list : List Width) (width : Width) → list_all test list ≡ true → list_any (same_width width) list ≡ true → test width ≡ true
 passes_among test [] width all any = absurd (false≢true any)
 passes_among test (first ∷ list) width all any =
     let parts = and_parts (test first) (list_all test list) all in
@@ -88,10 +88,10 @@ parts_fit width (part ∷ side) is =
     let both = and_parts (part_fits width part.kind part.width) (list_all (λ (p : Node). part_fits width p.kind p.width) side) is in
     (both.0, parts_fit width side both.1)
 
-record SideFits (width : Width) (side : List Node) : Type 0 where
-  one : AreTerms 1 side
-  fit : nodes_fit side ≡ true
-  fitting : AreFitting width side
+pub record SideFits (width : Width) (side : List Node) : Type 0 where
+  pub one : AreTerms 1 side
+  pub fit : nodes_fit side ≡ true
+  pub fitting : AreFitting width side
 
 side_from : (width : Width) (side : List Node) → side_fits width side ≡ true → SideFits width side
 side_from width side is =
@@ -99,12 +99,12 @@ side_from width side is =
     let parts = and_parts (nodes_fit side) (list_all (λ (p : Node). part_fits width p.kind p.width) side) both.1 in
     record { one = terms_from_test 1 side both.0; fit = parts.0; fitting = parts_fit width side parts.1 }
 
-record LawFits (law : Law) (rev : Bool) (width : Width) : Type 0 where
-  from : SideFits width (from_at law rev width)
-  to : SideFits width (to_at law rev width)
-  sizes : roots (from_at law rev width) ≡ roots (to_at law rev width)
+pub record LawFits (law : Law) (rev : Bool) (width : Width) : Type 0 where
+  pub from : SideFits width (from_at law rev width)
+  pub to : SideFits width (to_at law rev width)
+  pub sizes : roots (from_at law rev width) ≡ roots (to_at law rev width)
 
-law_from : (law : Law) (rev : Bool) (width : Width) → law_fits_at law width ≡ true → LawFits law rev width
+pub law_from : (law : Law) (rev : Bool) (width : Width) → law_fits_at law width ≡ true → LawFits law rev width
 law_from law false width fits =
     let both = and_parts (side_fits width (left_at law width)) _ fits in
     let right = and_parts (side_fits width (right_at law width)) (pointwise same_width (roots (left_at law width)) (roots (right_at law width))) both.1 in

@@ -1,7 +1,8 @@
 -- Terms that can be computed, and what a calculation answers.
 use Rattle.std.specs.Prelude.{◌≡◌, true, List, [], Option, Some, None, Result, Ok, Err}
 use Rattle.law_derive.specs.declared.node.Node.{Node}
-use Rattle.law_derive.specs.Derivations.{StepFault, NoMatch}
+use Rattle.law_derive.specs.declared.fault.StepFault.TheVariants.{NoMatch}
+use Rattle.law_derive.specs.declared.fault.StepFault.{StepFault}
 use Rattle.law_derive.specs.Fit.{nodes_fit}
 use Rattle.law_derive.specs.Nodes.{AreTerms}
 use Rattle.law_derive.specs.WordsLaws.{AreWordNodes}

@@ -22,6 +22,8 @@ use Rattle.rule_term.specs.Typings.{Occurrence, occurrences, obeys, first_of, se
 use Rattle.rule_spelling.specs.Files.{Binding, Step, Apply, Calc}
 use Rattle.law_derive.specs.declared.fault.DeriveFault.{DeriveFault}
 use Rattle.law_derive.specs.declared.fault.DeriveFault.TheVariants as fault
+use Rattle.law_derive.specs.declared.fault.StepFault as step_fault
+use Rattle.law_derive.specs.declared.fault.StepFault.TheVariants.{NoLaw, BadPath, NoMatch, CondMissing}
 use Rattle.law_derive.specs.declared.law.LawNode.{LawNode}
 use Rattle.law_derive.specs.declared.law.LawNode.TheVariants as law_node
 use Rattle.law_derive.specs.declared.node.Kind.{Kind}
@@ -84,11 +86,8 @@ expr_nodes at size terms =
 -- ---- steps
 
 -- why a step does not apply
-pub data StepFault : Type 0 where
-  NoLaw : StepFault
-  BadPath : StepFault
-  NoMatch : StepFault
-  CondMissing : StepFault
+abbrev pub StepFault : Type 0
+StepFault = step_fault.StepFault
 
 -- the letter of a name
 abbrev pub letter_named : List ℕ → Option ℕ

@@ -1,3 +1,4 @@
+pub mod Asking
 pub mod ByLawLaws
 pub mod Calculations
 pub mod Derivations
@@ -5,6 +6,7 @@ pub mod DerivationsLaws
 pub mod ExprNodesLaws
 pub mod ExprSizes
 pub mod ExprSizesLaws
+pub mod FillingLaws
 pub mod FineLaws
 pub mod Fit
 pub mod FitLaws
@@ -18,10 +20,14 @@ pub mod MatchingLaws
 pub mod Nodes
 pub mod NodesLaws
 pub mod OnlyListLaws
+pub mod Readings
+pub mod ReadingsLaws
 pub mod SameLaws
+pub mod Settings
 pub mod SidesLaws
 pub mod Sound
 pub mod StandingLaws
+pub mod Stepping
 pub mod StepsLaws
 pub mod TermsLaws
 pub mod Views

@@ -70,6 +70,19 @@ swapped k m [] a b own other are = subst (λ n. AreTerms n b) (same_count m k a 
 swapped zero m (node ∷ front) a b own other are = absurd are
 swapped (suc k) m (node ∷ front) a b own other are = swapped (sources_of node.kind + k) m front a b own other are
 
+-- the part at the end of a path is a term of the rule where the whole is
+pub part_stands : (at : Setting) (nodes : List Node) (path : List ℕ) (place : ℕ) → IsTermAt at nodes → place_at path nodes ≡ Some place → IsTermAt at (first_term (drop place nodes))
+part_stands at nodes path place stands is =
+    let behind : List Node = drop place nodes in
+    let found = place_terms path nodes 0 place stands.one is in
+    let e : suc found.0 ≡ 1 + found.0 = omega arith in
+    let parts = terms_split 1 found.0 behind (subst (λ n. AreTerms n behind) e found.1) in
+    record {
+      one = parts.0;
+      stand = all_take (NodeStands at) (extent 1 behind) behind (all_drop (NodeStands at) place nodes stands.stand);
+      fit = fit_take (extent 1 behind) 1 behind parts.0 (fit_drop place nodes stands.fit);
+    }
+
 module _ (at : Setting) (nodes : List Node) (stands : IsTermAt at nodes) (path : List ℕ) where
   -- a part in the place of another of its size and value
   put_keeps : (place : ℕ) (part : List Node) → place_at path nodes ≡ Some place → (IsTermAt at (first_term (drop place nodes)) → Keeps at (first_term (drop place nodes)) part)
@@ -81,11 +94,7 @@ module _ (at : Setting) (nodes : List Node) (stands : IsTermAt at nodes) (path :
       let parts = terms_split 1 found.0 behind (subst (λ n. AreTerms n behind) e found.1) in
       let standing = all_drop (NodeStands at) place nodes stands.stand in
       let fitting = fit_drop place nodes stands.fit in
-      let first : IsTermAt at (first_term behind) = record {
-        one = parts.0;
-        stand = all_take (NodeStands at) (extent 1 behind) behind standing;
-        fit = fit_take (extent 1 behind) 1 behind parts.0 fitting;
-      } in
+      let first : IsTermAt at (first_term behind) = part_stands at nodes path place stands is in
       let kept = keeps first in
       let rest : List Node = behind_first behind in
       let whole : nodes ≡ take place nodes ++ (first_term behind ++ rest) =

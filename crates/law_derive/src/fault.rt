@@ -2,6 +2,7 @@
 
 ghost use Rattle.std.specs.Prelude.{◌≡◌};
 ghost use Rattle.law_derive.specs.declared.fault.DeriveFault.TheVariants.{OutOfMemory as NoMemory};
+ghost use Rattle.law_derive.specs.Derivations.{fault_at};
 
 use nir_host::OutOfMemory;
 
@@ -20,6 +21,33 @@ pub enum DeriveFault {
     WrongEnd,
     /// There was no memory for a term.
     OutOfMemory,
+}
+
+/// Why a step does not apply.
+#[derive(Clone, Copy, Debug, PartialEq, Eq)]
+pub(crate) enum StepFault {
+    /// No law has the number.
+    NoLaw,
+    /// The path leads to no part of the term.
+    BadPath,
+    /// The law does not match the part, or its bindings are not those that it asks for; or the calculation has another value.
+    NoMatch,
+    /// The law asks for a condition that nothing shows.
+    CondMissing,
+}
+
+impl StepFault {
+    /// The fault of a derivation whose step of this number does not apply.
+    pub(crate) fn at_step(self, number: u64) -> DeriveFault
+        ensures { result ≡ fault_at number self }
+    {
+        match self {
+            StepFault::NoLaw => DeriveFault::NoLaw(number),
+            StepFault::BadPath => DeriveFault::BadPath(number),
+            StepFault::NoMatch => DeriveFault::NoMatch(number),
+            StepFault::CondMissing => DeriveFault::CondMissing(number),
+        }
+    }
 }
 
 impl From<OutOfMemory> for DeriveFault {

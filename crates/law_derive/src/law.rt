@@ -3,7 +3,8 @@
 use nir_ops::Op;
 use rule_term::Cond;
 
-/// A node of a side of a law: an opcode over its sources, which stand behind it, a letter, or a number.
+/// A node of a side of a law: an opcode over its sources, which stand behind it, a letter, or a number. A letter is its byte: x, y and z
+/// have the law's size, b has 1 bit, and c may be asked for a condition.
 #[derive(Clone, Copy, Debug, PartialEq, Eq)]
 pub enum LawNode {
     App { op: Op },

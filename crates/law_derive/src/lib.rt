@@ -1,25 +1,32 @@
 //! Derivations: steps by laws of the opcodes, and calculations, that lead from one side of a rule to the other. Here stand the table of
 //! the laws, what each step makes of a term or why it does not apply, and that a derivation in which nothing is wrong shows that both
-//! sides are equal; and the parts of the code that checks one: the sides of laws at a size, matching them, filling them, where parts of
-//! terms stand, and calculations. The sizes of expressions and whole steps are to come.
+//! sides are equal; and the parts of the code that checks one: the sides of laws at a size, matching them, filling them, and where parts of
+//! terms stand. The sizes of expressions, calculations and whole steps are to come.
 #![tactic(auto)]
 
 ghost use Rattle.law_derive.specs.LawsHold.{LawsHold};
 ghost use Rattle.law_derive.specs.Sound.{DerivationsAreSound};
 
+mod binding;
 mod calc;
 mod check;
+mod cond;
 mod expr;
 mod fault;
 mod filling;
 mod law;
+mod letters;
 mod matching;
 mod node;
 mod parts;
+mod reading;
 mod same;
+mod setting;
 mod side;
 mod sizes;
+mod step;
 mod table;
+mod terms;
 
 pub use check::check_derivation;
 pub use fault::DeriveFault;

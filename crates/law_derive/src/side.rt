@@ -3,9 +3,10 @@
 ghost use Rattle.std.specs.Prelude.{◌≡◌, [], ◌∷◌, ◌++◌, IfOk, OnOk, map};
 ghost use Rattle.op_eval.specs.Calls.{size_at};
 ghost use Rattle.law_derive.specs.LawTable.{sized, unsized_in};
-ghost use Rattle.law_derive.specs.Views.{node_at, sources_at};
+ghost use Rattle.law_derive.specs.Views.{node_at, side_says, sources_at};
 
 use crate::law::LawNode;
+use crate::letters::number_of;
 use crate::node::{Kind, Node};
 use nir_host::{OutOfMemory, Seq};
 use nir_ops::{OpInput, Width, info};
@@ -19,7 +20,7 @@ fn node_at(part: LawNode, size: Width) -> Node
     let kind = match part {
         LawNode::App { op } => Kind::App { op },
         LawNode::Letter { letter } => Kind::Var {
-            var: u32::from(letter),
+            var: number_of(letter),
         },
         LawNode::Lit { value, .. } => Kind::Lit {
             word: reduced(i128::from(value), size),
@@ -80,7 +81,7 @@ pub fn side_at(
     width: Width,
     value: Width,
 ) -> Result<Seq<Node>, OutOfMemory>
-    ensures { IfOk result (λ nodes. nodes ≡ sized width side.now (value ∷ [])) }
+    ensures { IfOk result (λ nodes. nodes ≡ sized width (side_says side.now) (value ∷ [])) }
 {
     let mut nodes = Seq::new(alloc);
     let mut sizes = Seq::new(alloc);

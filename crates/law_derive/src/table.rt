@@ -60,15 +60,15 @@ const UMAX: LawNode = LawNode::App { op: Op::Umax };
 
 const LSB: LawNode = LawNode::App { op: Op::FindLsb };
 
-const X: LawNode = LawNode::Letter { letter: 0 };
+const X: LawNode = LawNode::Letter { letter: b'x' };
 
-const Y: LawNode = LawNode::Letter { letter: 1 };
+const Y: LawNode = LawNode::Letter { letter: b'y' };
 
-const Z: LawNode = LawNode::Letter { letter: 2 };
+const Z: LawNode = LawNode::Letter { letter: b'z' };
 
-const B: LawNode = LawNode::Letter { letter: 3 };
+const B: LawNode = LawNode::Letter { letter: b'b' };
 
-const C: LawNode = LawNode::Letter { letter: 4 };
+const C: LawNode = LawNode::Letter { letter: b'c' };
 
 const ZERO: LawNode = LawNode::Lit {
     value: 0,
