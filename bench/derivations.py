@@ -7,7 +7,7 @@ to come of each rule; what `nir_opt check` says (crates/nir_opt/out/nir_opt, as 
 Then a derivation of 10,000 steps over terms of 33 nodes is timed, the least of RUNS runs (5 if left out). The status is 1 where a line
 differs or the time is past its limit, and 2 where there is no program.
 
-bench/derivations.py --rows prints the tables of crates/rule_tests/src/law_rows.rt, in which N stands for the size.
+bench/derivations.py --rows prints the tables of crates/rule_tests/src/derivation_rows.rt, which hold the same rules.
 bench/derivations.py --check FILE tells what is to come of the rules of a file: tuples, `by *` and derivations alone.
 """
 import itertools
@@ -434,8 +434,10 @@ def typings(rule):
 
 
 def told(rule):
-    """What is to come of a rule."""
-    for number, (_, sizes, search, replace) in enumerate(typings(rule)):
+    """What is to come of a rule, which has sizes."""
+    found = typings(rule)
+    assert found, "a rule without sizes"
+    for number, (_, sizes, search, replace) in enumerate(found):
         fault = fault_at(rule, sizes, search, replace)
         if fault:
             return f"typing {number}: {fault}"
@@ -451,13 +453,27 @@ def lines(text):
 
 def spelled(term, cond=None, is_search=False):
     if isinstance(term, App):
-        return f"('{term.op}', {', '.join(spelled(source, cond, is_search) for source in term.args)})"
+        return f"({term.op}, {', '.join(spelled(source, cond, is_search) for source in term.args)})"
     if isinstance(term, Lit):
         return str(bool(term.value)) if term.is_truth else str(term.value)
     if not is_search:
         return term.name
     front, end = ("#", f"({cond})") if term.name == "c" and cond else ("", "")
     return f"'{front}{term.name}@{1 if term.name == 'b' else 'N'}{end}'"
+
+
+def spelled_search(term, cond):
+    """A search side, in which the first occurrence of each variable has its size."""
+    seen = set()
+
+    def first(found):
+        name = found[1]
+        if name in seen:
+            return name
+        seen.add(name)
+        return found[0]
+
+    return re.sub(r"'#?(\w+)@[^']*'", first, spelled(term, cond, True))
 
 
 def replaced(term, name, with_term):
@@ -493,7 +509,7 @@ def rows():
             source, target = (law.right, law.left) if rev else (law.left, law.right)
             unbound = names(target) - names(source)
             path, frame = framed(source, unbound)
-            search = spelled(frame(source), law.cond, True)
+            search = spelled_search(frame(source), law.cond)
             for deep in (False, True)[: 1 + len(unbound)]:
                 made, bound = target, ""
                 for name in unbound:
@@ -515,10 +531,10 @@ def with_number(number, law, rev):
         # Where `find_lsb` has a number it is calculated: its size is not known.
         source, target = (shift_calculated(one) for one in (source, target))
         if rev:
-            before = [f"(calc, {there}, ('find_lsb', ('iadd@N', {value}, 0)))", f"(calc, {there + [0]}, {value})"]
+            before = [f"(calc, {there}, (find_lsb, ('iadd@N', {value}, 0)))", f"(calc, {there + [0]}, {value})"]
         else:
             after = [f"(calc, {there}, 2)"]
-    return Row(number, rev, law.sizes, spelled(source, None, True), spelled(target), before, step, [], after)
+    return Row(number, rev, law.sizes, spelled_search(source, None), spelled(target), before, step, [], after)
 
 
 def shift_calculated(term):
@@ -569,13 +585,12 @@ def expanded(table):
     return "[" + ",\n ".join(at_size(text, size)[1:-1] for sizes, text in table for size in sizes) + "]"
 
 
-def with_lines(table):
-    """The rows that come to one end at all their sizes, which they must not be told, with that end."""
+def with_ends(table):
+    """The rows with what is to come of each, which is one thing at all its sizes."""
     found = []
     for sizes, text in table:
-        ends = {lines(at_size(text, size))[0] for size in sizes}
-        (end,) = ends
-        found.append((sizes, text, end))
+        (end,) = {lines(at_size(text, size))[0] for size in sizes}
+        found.append(f"{'B' if 1 in sizes else 'A'}|{end}|{text}")
     return found
 
 
@@ -625,11 +640,16 @@ def compared(name, text):
     return not other and status == (0 if accepted == len(wanted) else 6)
 
 
+ROWS = """//! Rules that are derived by each law, and derivations with a step that does not apply. bench/derivations.py writes this file, and tells
+//! what is to come of each rule by a checker of its own. A line has the sizes, A from 8 bits on and B of 1 bit too, the line of the
+//! command `check`, and a rule file in which N stands for the size.
+"""
+
+
 def print_rows():
-    for name, table in (("RIGHT", with_lines(right_rows())), ("WRONG", with_lines(wrong_rows()))):
-        print(name)
-        for sizes, text, end in table:
-            print(f"    {len(sizes)} {end} {text}")
+    print(ROWS)
+    for comment, name, table in (("Derivations through each law.", "RIGHT", right_rows()), ("Derivations that fail.", "WRONG", wrong_rows())):
+        print(f'/// {comment}\npub(crate) const {name}: &str = r"' + "\n".join(with_ends(table)) + '";\n')
 
 
 def main():
