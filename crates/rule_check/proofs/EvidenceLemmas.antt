@@ -1,5 +1,5 @@
 -- The typings of a rule, one by one, and what is wrong at each.
-use Rattle.std.proofs.Common.{◌≡◌, ◌+◌, ◌<◌, ℕ, true, Option, Some, None, List, length, drop, get_or, refl, sym, ◌∙◌, ap, subst}
+use Rattle.std.proofs.Common.{◌≡◌, ◌+◌, ◌<◌, ℕ, true, Option, Some, None, List, length, drop, get_or, sym, ◌∙◌, ap, subst}
 use Rattle.std.specs.List.{All}
 use Rattle.std.specs.Option.{option_map, option_or}
 use Rattle.std.proofs.lemmas.List.{at_drop_more}
@@ -8,17 +8,14 @@ use Rattle.rule_term.specs.Rule.{Rule}
 use Rattle.rule_term.specs.Typings.{is_typing, typings}
 use Rattle.rule_term.specs.declared.typing.Typing.{Typing}
 use Rattle.size_infer.specs.Grown.{all_widths_of}
-use Rattle.rule_spelling.specs.Files as said
 use Rattle.rule_spelling.specs.Files.{Line, Proof}
 use Rattle.rule_read.specs.declared.entry.Entry.{Entry}
 use Rattle.rule_read.specs.Says.{entry_says}
 use Rattle.size_infer.specs.SizeFaults.{size_fault}
 use Rattle.size_infer.specs.declared.fault.SizeFault.{SizeFault}
 use Rattle.rule_check.specs.declared.refused.RuleCause.{RuleCause}
-use Rattle.rule_check.specs.declared.refused.RuleCause.TheVariants as cause
 use Rattle.rule_check.specs.declared.refused.Refused.{Refused}
-use Rattle.rule_check.specs.Accepted.{cause_at, cause_by, cause_of_trial, Claim, claim_of, refusal_of, refusal_on, refused_among, refused_at, refused_by_size, refused_for}
-use Rattle.rule_check.specs.Cases.{trial_of}
+use Rattle.rule_check.specs.Accepted.{cause_at, Claim, claim_of, refusal_of, refusal_on, refused_among, refused_at, refused_by_size, refused_for}
 use Rattle.rule_check.specs.SaidLaws.{refusal_as_said}
 
 -- the typing at a place of a list

@@ -1,6 +1,5 @@
 -- what the rest of the list answers is the answer
 use Rattle.std.proofs.Common.{◌≡◌, drop, find, map}
-use Rattle.std.specs.Option.{option_map}
 use Rattle.rule_read.specs.Says.{line_says}
 use Rattle.rule_check.specs.Lines.{is_for}
 use Rattle.rule_check.proofs.evidence.first_by.Given as goal
