@@ -3,7 +3,8 @@
 //! command `check`, and a rule file in which N stands for the size.
 
 /// Derivations through each law.
-pub(crate) const RIGHT: &str = r"A|rule 0 accepted|[((iadd, 'x@N', 'y@N'), (iadd, y, x)), by * derive [(1, [])]]
+pub(crate) const RIGHT: &str =
+    r"A|rule 0 accepted|[((iadd, 'x@N', 'y@N'), (iadd, y, x)), by * derive [(1, [])]]
 A|rule 0 accepted|[((iadd, 'y@N', 'x@N'), (iadd, x, y)), by * derive [(1, [], rev)]]
 A|rule 0 accepted|[((iadd, (iadd, 'x@N', 'y@N'), 'z@N'), (iadd, x, (iadd, y, z))), by * derive [(2, [])]]
 A|rule 0 accepted|[((iadd, 'x@N', (iadd, 'y@N', 'z@N')), (iadd, (iadd, x, y), z)), by * derive [(2, [], rev)]]
@@ -138,7 +139,8 @@ A|rule 0 accepted|[((ushr, 'x@N', 0), x), by * derive [(56, [])]]
 A|rule 0 accepted|[((ixor, 'x@N', x), (ixor, (ushr, x, 0), x)), by * derive [(56, [0], rev)]]";
 
 /// Derivations that fail.
-pub(crate) const WRONG: &str = r"A|rule 0 typing 0: derivation step 0: no match|[((iadd, 'x@N', 'y@N'), (iadd, y, x)), by * derive [(1, [], z = x), (29, [], rev), (29, [])]]
+pub(crate) const WRONG: &str =
+    r"A|rule 0 typing 0: derivation step 0: no match|[((iadd, 'x@N', 'y@N'), (iadd, y, x)), by * derive [(1, [], z = x), (29, [], rev), (29, [])]]
 A|rule 0 typing 0: derivation ends elsewhere|[((iadd, 'x@N', 'y@N'), (iadd, y, x)), by * derive [(1, []), (29, [], rev)]]
 A|rule 0 typing 0: derivation step 2: no match|[((iadd, 'y@N', 'x@N'), (iadd, x, y)), by * derive [(29, [], rev), (29, []), (1, [], rev, w = x), (29, [], rev), (29, [])]]
 A|rule 0 typing 0: derivation step 2: no match|[((iadd, (iadd, 'x@N', 'y@N'), 'z@N'), (iadd, x, (iadd, y, z))), by * derive [(29, [], rev), (29, []), (2, [], rev)]]
@@ -159,7 +161,6 @@ A|rule 0 typing 0: derivation step 2: no law|[((iadd, (inot, 'x@N'), 1), (ineg, 
 A|rule 0 typing 0: derivation step 0: no match|[((idiv, 'x@N', 1), x), by * derive [(8, [], z = x), (29, [], rev), (29, [])]]
 A|rule 0 typing 0: derivation ends elsewhere|[((idiv, 'x@N', 1), x), by * derive [(8, []), (29, [], rev)]]
 A|rule 0 typing 0: derivation step 2: no match|[((ixor, 'x@N', x), (ixor, (idiv, x, 1), x)), by * derive [(29, [], rev), (29, []), (8, [0], rev, w = x), (29, [], rev), (29, [])]]
-A|rule 0 accepted|[((imul, 'x@N', 'y@N'), (imul, y, x)), by * derive [(29, [], rev), (29, []), (9, [], rev)]]
 A|rule 0 typing 0: derivation step 0: bad path|[((imul, 'y@N', 'x@N'), (imul, x, y)), by * derive [(9, [0, 3], rev), (29, [], rev), (29, [])]]
 A|rule 0 typing 0: derivation step 2: no law|[((imul, (imul, 'x@N', 'y@N'), 'z@N'), (imul, x, (imul, y, z))), by * derive [(29, [], rev), (29, []), (57, []), (29, [], rev), (29, [])]]
 A|rule 0 typing 0: derivation step 2: no match|[((imul, 'x@N', (imul, 'y@N', 'z@N')), (imul, (imul, x, y), z)), by * derive [(29, [], rev), (29, []), (10, [], rev, z = x)]]
@@ -219,7 +220,6 @@ B|rule 0 typing 0: derivation step 0: no law|[((ixor, 'x@N', x), (ixor, (ior, x,
 B|rule 0 typing 0: derivation step 2: no match|[((ior, 'x@N', 0), x), by * derive [(29, [], rev), (29, []), (25, [], z = x), (29, [], rev), (29, [])]]
 B|rule 0 typing 0: derivation ends elsewhere|[((ior, 'x@N', 0), x), by * derive [(25, []), (29, [], rev)]]
 B|rule 0 typing 0: derivation step 2: no match|[((ixor, 'x@N', x), (ixor, (ior, x, 0), x)), by * derive [(29, [], rev), (29, []), (25, [0], rev, w = x)]]
-B|rule 0 accepted|[((ixor, 'x@N', 'y@N'), (ixor, y, x)), by * derive [(26, [], rev), (29, [], rev), (29, [])]]
 B|rule 0 typing 0: derivation step 2: bad path|[((ixor, 'y@N', 'x@N'), (ixor, x, y)), by * derive [(29, [], rev), (29, []), (26, [0, 3], rev), (29, [], rev), (29, [])]]
 B|rule 0 typing 0: derivation step 2: no law|[((ixor, (ixor, 'x@N', 'y@N'), 'z@N'), (ixor, x, (ixor, y, z))), by * derive [(29, [], rev), (29, []), (57, [])]]
 B|rule 0 typing 0: derivation step 0: no match|[((ixor, 'x@N', (ixor, 'y@N', 'z@N')), (ixor, (ixor, x, y), z)), by * derive [(27, [], rev, z = x), (29, [], rev), (29, [])]]
@@ -249,7 +249,6 @@ B|rule 0 typing 0: derivation step 2: no law|[((bcsel, True, 'x@N', x), (bcsel, 
 B|rule 0 typing 0: derivation step 2: no match|[((bcsel, True, 'x@N', x), (bcsel, (ieq, (inot, x), (inot, x)), x, x)), by * derive [(29, [], rev), (29, []), (35, [0], rev, x = (inot, x), z = x)]]
 B|rule 0 typing 0: derivation ends elsewhere|[((bcsel, True, 'x@N', x), (bcsel, (ieq, (inot, x), (inot, x)), x, x)), by * derive [(35, [0], rev, x = (inot, x)), (29, [], rev)]]
 B|rule 0 typing 0: derivation step 0: no match|[((ieq, 'x@N', 'y@N'), (ieq, y, x)), by * derive [(36, [], w = x), (29, [], rev), (29, [])]]
-B|rule 0 accepted|[((ieq, 'y@N', 'x@N'), (ieq, x, y)), by * derive [(29, [], rev), (29, []), (36, []), (29, [], rev), (29, [])]]
 B|rule 0 typing 0: derivation step 2: bad path|[((ine, 'x@N', 'y@N'), (inot, (ieq, x, y))), by * derive [(29, [], rev), (29, []), (37, [0, 3])]]
 B|rule 0 typing 0: derivation step 0: no law|[((inot, (ieq, 'x@N', 'y@N')), (ine, x, y)), by * derive [(0, [], rev), (29, [], rev), (29, [])]]
 A|rule 0 typing 0: derivation step 2: no match|[((ige, 'x@N', 'y@N'), (inot, (ilt, x, y))), by * derive [(29, [], rev), (29, []), (38, [], z = x), (29, [], rev), (29, [])]]
@@ -322,4 +321,3 @@ A|rule 0 typing 0: derivation step 2: no match|[((ixor, 'x@N', x), (ixor, (ishl,
 A|rule 0 typing 0: derivation ends elsewhere|[((ixor, 'x@N', x), (ixor, (ishl, x, 0), x)), by * derive [(55, [0], rev), (29, [], rev)]]
 A|rule 0 typing 0: derivation step 2: no match|[((ushr, 'x@N', 0), x), by * derive [(29, [], rev), (29, []), (56, [], w = x)]]
 A|rule 0 typing 0: derivation step 0: no match|[((ixor, 'x@N', x), (ixor, (ushr, x, 0), x)), by * derive [(56, [0]), (29, [], rev), (29, [])]]";
-

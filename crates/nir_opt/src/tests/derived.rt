@@ -227,9 +227,7 @@ static LEFT_OUT: [Case; 2] = [
         ..PRINTED
     },
     Case {
-        rules: Text::Whole(
-            b"[(('iadd', a, 0), a), by * derive [(1, []), (3, []), (15, [])]]",
-        ),
+        rules: Text::Whole(b"[(('iadd', a, 0), a), by * derive [(1, []), (3, []), (15, [])]]"),
         number: 6,
         notes: b"rules: rule 0 typing 0: derivation step 1: no match\n",
         ..REFUSED
