@@ -647,9 +647,10 @@ ROWS = """//! Rules that are derived by each law, and derivations with a step th
 
 
 def print_rows():
-    print(ROWS)
+    print(ROWS, end="")
     for comment, name, table in (("Derivations through each law.", "RIGHT", right_rows()), ("Derivations that fail.", "WRONG", wrong_rows())):
-        print(f'/// {comment}\npub(crate) const {name}: &str = r"' + "\n".join(with_ends(table)) + '";\n')
+        print(f'\n/// {comment}\npub(crate) const {name}: &str = r"')
+        print("\n".join(with_ends(table)) + '";')
 
 
 def main():

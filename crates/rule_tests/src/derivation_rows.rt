@@ -3,8 +3,8 @@
 //! command `check`, and a rule file in which N stands for the size.
 
 /// Derivations through each law.
-pub(crate) const RIGHT: &str =
-    r"A|rule 0 accepted|[((iadd, 'x@N', 'y@N'), (iadd, y, x)), by * derive [(1, [])]]
+pub(crate) const RIGHT: &str = r"
+A|rule 0 accepted|[((iadd, 'x@N', 'y@N'), (iadd, y, x)), by * derive [(1, [])]]
 A|rule 0 accepted|[((iadd, 'y@N', 'x@N'), (iadd, x, y)), by * derive [(1, [], rev)]]
 A|rule 0 accepted|[((iadd, (iadd, 'x@N', 'y@N'), 'z@N'), (iadd, x, (iadd, y, z))), by * derive [(2, [])]]
 A|rule 0 accepted|[((iadd, 'x@N', (iadd, 'y@N', 'z@N')), (iadd, (iadd, x, y), z)), by * derive [(2, [], rev)]]
@@ -139,8 +139,8 @@ A|rule 0 accepted|[((ushr, 'x@N', 0), x), by * derive [(56, [])]]
 A|rule 0 accepted|[((ixor, 'x@N', x), (ixor, (ushr, x, 0), x)), by * derive [(56, [0], rev)]]";
 
 /// Derivations that fail.
-pub(crate) const WRONG: &str =
-    r"A|rule 0 typing 0: derivation step 0: no match|[((iadd, 'x@N', 'y@N'), (iadd, y, x)), by * derive [(1, [], z = x), (29, [], rev), (29, [])]]
+pub(crate) const WRONG: &str = r"
+A|rule 0 typing 0: derivation step 0: no match|[((iadd, 'x@N', 'y@N'), (iadd, y, x)), by * derive [(1, [], z = x), (29, [], rev), (29, [])]]
 A|rule 0 typing 0: derivation ends elsewhere|[((iadd, 'x@N', 'y@N'), (iadd, y, x)), by * derive [(1, []), (29, [], rev)]]
 A|rule 0 typing 0: derivation step 2: no match|[((iadd, 'y@N', 'x@N'), (iadd, x, y)), by * derive [(29, [], rev), (29, []), (1, [], rev, w = x), (29, [], rev), (29, [])]]
 A|rule 0 typing 0: derivation step 2: no match|[((iadd, (iadd, 'x@N', 'y@N'), 'z@N'), (iadd, x, (iadd, y, z))), by * derive [(29, [], rev), (29, []), (2, [], rev)]]

@@ -3,8 +3,11 @@
 use crate::derivation_rows::{RIGHT, WRONG};
 use crate::every_size::at_size;
 use crate::rule_checks::show_refused;
+use law_derive::{DeriveFault, check_derivation};
 use rule_check::{CheckFault, check_file};
-use rule_read::read_rules;
+use rule_read::{Derivation, Proof, read_rules};
+use rule_term::Rule;
+use size_infer::typings;
 use std::alloc::Global;
 use std::test::Fail;
 
@@ -161,28 +164,80 @@ fn line_at(alloc: Global, sizes: &[&[u8]], text: &str, wanted: &str) -> Result<S
     Ok(String::from_str(alloc, wanted)?)
 }
 
-/// What is wanted of a row, and what is told of it.
-fn told(alloc: Global, row: &str) -> Result<(&str, String), Fail> {
-    let (sizes, behind) = row.split_once('|').ok_or("sizes")?;
-    let (wanted, text) = behind.split_once('|').ok_or("a line")?;
+/// What is wanted of a row behind its sizes, and what is told of it.
+fn told<'a>(alloc: Global, sizes: &str, row: &'a str) -> Result<(&'a str, String), Fail> {
+    let (wanted, text) = row.split_once('|').ok_or("a row without a line")?;
     let shown = line_at(alloc, sizes_of(sizes), text, wanted)?;
     Ok((wanted, shown))
 }
 
 #[test]
 fn each_law_is_gone_through(rt: HostRuntime) -> Result<(), Fail> {
-    for row in RIGHT.lines() {
-        let (wanted, shown) = told(rt.alloc(), row)?;
-        assert_eq!(rt; shown.as_str(), wanted, "{row}");
+    for line in RIGHT.lines() {
+        if let Some((sizes, row)) = line.split_once('|') {
+            let (wanted, shown) = told(rt.alloc(), sizes, row)?;
+            assert_eq!(rt; shown.as_str(), wanted, "{row}");
+        }
     }
     Ok(())
 }
 
 #[test]
 fn the_first_fault_of_a_derivation_is_told(rt: HostRuntime) -> Result<(), Fail> {
-    for row in WRONG.lines() {
-        let (wanted, shown) = told(rt.alloc(), row)?;
-        assert_eq!(rt; shown.as_str(), wanted, "{row}");
+    for line in WRONG.lines() {
+        if let Some((sizes, row)) = line.split_once('|') {
+            let (wanted, shown) = told(rt.alloc(), sizes, row)?;
+            assert_eq!(rt; shown.as_str(), wanted, "{row}");
+        }
+    }
+    Ok(())
+}
+
+/// The first fault of a derivation at the typings of a rule.
+fn first_fault(
+    alloc: Global,
+    rule: &Rule,
+    derivation: &Derivation,
+) -> Result<Option<DeriveFault>, Fail> {
+    let Ok(list) = typings(alloc, rule) else {
+        return Err("sizes that are of no use".into());
+    };
+    for typing in list.as_slice() {
+        if let Err(fault) = check_derivation(alloc, rule, typing, derivation) {
+            return Ok(Some(fault));
+        }
+    }
+    Ok(None)
+}
+
+/// The first fault of the derivation of a file of one rule and one line.
+fn fault_of(alloc: Global, text: &str) -> Result<Option<DeriveFault>, Fail> {
+    let file = read_rules(alloc, text.as_bytes())?;
+    let entry = file.entries.get(0).ok_or("a rule")?;
+    let line = entry.lines.get(0).ok_or("a line")?;
+    match &line.proof {
+        Proof::Derive(derivation) => first_fault(alloc, &entry.rule, derivation),
+        Proof::Cases | Proof::Logged(_) => Err("no derivation".into()),
+    }
+}
+
+/// Derivations that are checked without the rest of their file.
+static ALONE: [(&str, Option<DeriveFault>); 3] = [
+    ("[((iadd, a, 0), a), by * derive [(3, [])]]", None),
+    (
+        "[((iadd, a, 0), a), by * derive [(1, []), (3, [])]]",
+        Some(DeriveFault::NoMatch(1)),
+    ),
+    (
+        "[((iadd, a, 0), a), by * derive []]",
+        Some(DeriveFault::WrongEnd),
+    ),
+];
+
+#[test]
+fn a_derivation_alone_is_checked(rt: HostRuntime) -> Result<(), Fail> {
+    for &(text, wanted) in &ALONE {
+        assert_eq!(rt; fault_of(rt.alloc(), text)?, wanted, "{text}");
     }
     Ok(())
 }
