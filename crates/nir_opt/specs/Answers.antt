@@ -10,7 +10,9 @@ use Rattle.term_read.specs.declared.fault.RuleFault.{RuleFault}
 use Rattle.term_read.specs.declared.fault.RuleFault.TheVariants as rule
 use Rattle.rule_check.specs.declared.refused.Refused.{Refused}
 use Rattle.rule_check.specs.declared.refused.RuleCause.{RuleCause}
-use Rattle.rule_check.specs.declared.refused.RuleCause.TheVariants.{Size, NoEvidence, Cases, TooManyCases, NotBuilt}
+use Rattle.law_derive.specs.declared.fault.DeriveFault.{DeriveFault}
+use Rattle.law_derive.specs.declared.fault.DeriveFault.TheVariants as derive
+use Rattle.rule_check.specs.declared.refused.RuleCause.TheVariants.{Size, NoEvidence, Cases, TooManyCases, Derive, NotBuilt}
 use Rattle.nir_mean.specs.Faults.{fault_place}
 use Rattle.nir_mean.specs.ShaderLines.{invalid_line, syntax_line, which_text}
 use Rattle.nir_opt.specs.declared.status.Status.{Status}
@@ -101,11 +103,24 @@ size_text (size.Ambiguous node) = codes "node " ++ decimal node ++ codes " has n
 size_text size.TooMany = codes "too many sizes"
 size_text size.OutOfMemory = []
 
+-- a step of a derivation, with what is wrong with it
+abbrev pub step_text : ℕ → List ℕ → List ℕ
+step_text step what = codes "derivation step " ++ decimal step ++ what
+
+abbrev pub derive_text : DeriveFault → List ℕ
+derive_text (derive.NoLaw step) = step_text step (codes ": no law")
+derive_text (derive.BadPath step) = step_text step (codes ": bad path")
+derive_text (derive.NoMatch step) = step_text step (codes ": no match")
+derive_text (derive.CondMissing step) = step_text step (codes ": condition missing")
+derive_text derive.WrongEnd = codes "derivation ends elsewhere"
+derive_text derive.OutOfMemory = []
+
 abbrev pub cause_text : RuleCause → List ℕ
 cause_text (Size fault) = size_text fault
 cause_text NoEvidence = codes "no evidence"
 cause_text (Cases values) = codes "cases differ" ++ at_values values
 cause_text TooManyCases = codes "too many cases"
+cause_text (Derive fault) = derive_text fault
 cause_text NotBuilt = codes "not built"
 
 abbrev pub typing_text : Option ℕ → List ℕ

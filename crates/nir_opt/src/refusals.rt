@@ -1,8 +1,9 @@
 //! The lines on rules that are not accepted.
 
 ghost use Rattle.std.specs.Prelude.{◌≡◌, ◌++◌, OnOk, IfOk, codes, decimal};
-ghost use Rattle.nir_opt.specs.Answers.{at_values, cause_text, refusal_line, refusal_text, size_text, skipped_text, typing_text};
+ghost use Rattle.nir_opt.specs.Answers.{at_values, cause_text, derive_text, refusal_line, refusal_text, size_text, skipped_text, step_text, typing_text};
 
+use law_derive::DeriveFault;
 use nir_host::{Bytes, OutOfMemory};
 use rule_check::{Refused, RuleCause};
 use size_infer::SizeFault;
@@ -43,6 +44,29 @@ fn push_size(out: &mut Vec<u8>, fault: SizeFault) -> Result<(), OutOfMemory>
     }
 }
 
+/// Adds a step of a derivation, with what is wrong with it.
+fn push_step(out: &mut Vec<u8>, step: u64, what: &[u8]) -> Result<(), OutOfMemory>
+    ensures { OnOk result (out.new.items ≡ out.old.items ++ step_text step what.now) }
+{
+    push(out, b"derivation step ")?;
+    push_number(out, step)?;
+    push(out, what)
+}
+
+/// Adds why a derivation shows nothing.
+fn push_derive(out: &mut Vec<u8>, fault: DeriveFault) -> Result<(), OutOfMemory>
+    ensures { OnOk result (out.new.items ≡ out.old.items ++ derive_text fault) }
+{
+    match fault {
+        DeriveFault::NoLaw(step) => push_step(out, step, b": no law"),
+        DeriveFault::BadPath(step) => push_step(out, step, b": bad path"),
+        DeriveFault::NoMatch(step) => push_step(out, step, b": no match"),
+        DeriveFault::CondMissing(step) => push_step(out, step, b": condition missing"),
+        DeriveFault::WrongEnd => push(out, b"derivation ends elsewhere"),
+        DeriveFault::OutOfMemory => push(out, b""),
+    }
+}
+
 /// Adds why a rule is not accepted.
 fn push_cause(out: &mut Vec<u8>, cause: &RuleCause) -> Result<(), OutOfMemory>
     ensures { OnOk result (out.new.items ≡ out.old.items ++ cause_text cause.now) }
@@ -55,6 +79,7 @@ fn push_cause(out: &mut Vec<u8>, cause: &RuleCause) -> Result<(), OutOfMemory>
             push_at_values(out, values.as_slice())
         }
         RuleCause::TooManyCases => push(out, b"too many cases"),
+        RuleCause::Derive(fault) => push_derive(out, *fault),
         RuleCause::NotBuilt => push(out, b"not built"),
     }
 }

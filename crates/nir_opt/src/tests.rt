@@ -2,6 +2,7 @@
 //! a static, which costs the proof of a test next to nothing.
 
 mod check;
+mod derived;
 mod eval;
 mod loops;
 mod refusals;

@@ -1,5 +1,5 @@
 -- The typings of a rule, one by one, and what is wrong at each.
-use Rattle.std.proofs.Common.{◌≡◌, ◌+◌, ◌<◌, ℕ, true, Option, Some, None, List, length, drop, get_or, refl, sym, ◌∙◌, ap, subst}
+use Rattle.std.proofs.Common.{◌≡◌, ◌+◌, ◌<◌, ℕ, true, Option, Some, None, List, length, drop, get_or, sym, ◌∙◌, ap, subst}
 use Rattle.std.specs.List.{All}
 use Rattle.std.specs.Option.{option_map, option_or}
 use Rattle.std.proofs.lemmas.List.{at_drop_more}
@@ -8,19 +8,14 @@ use Rattle.rule_term.specs.Rule.{Rule}
 use Rattle.rule_term.specs.Typings.{is_typing, typings}
 use Rattle.rule_term.specs.declared.typing.Typing.{Typing}
 use Rattle.size_infer.specs.Grown.{all_widths_of}
-use Rattle.rule_spelling.specs.Files as said
 use Rattle.rule_spelling.specs.Files.{Line, Proof}
 use Rattle.rule_read.specs.declared.entry.Entry.{Entry}
 use Rattle.rule_read.specs.Says.{entry_says}
 use Rattle.size_infer.specs.SizeFaults.{size_fault}
 use Rattle.size_infer.specs.declared.fault.SizeFault.{SizeFault}
-use Rattle.rule_check.specs.declared.evidence.Kind.TheVariants as kind
 use Rattle.rule_check.specs.declared.refused.RuleCause.{RuleCause}
-use Rattle.rule_check.specs.declared.refused.RuleCause.TheVariants as cause
 use Rattle.rule_check.specs.declared.refused.Refused.{Refused}
-use Rattle.rule_check.specs.Accepted.{cause_at, cause_by, cause_of_trial, Claim, claim_of, refusal_of, refusal_on, refused_among, refused_at, refused_by_size, refused_for}
-use Rattle.rule_check.specs.Cases.{trial_of}
-use Rattle.rule_check.specs.Lines.{kind_of}
+use Rattle.rule_check.specs.Accepted.{cause_at, Claim, claim_of, refusal_of, refusal_on, refused_among, refused_at, refused_by_size, refused_for}
 use Rattle.rule_check.specs.SaidLaws.{refusal_as_said}
 
 -- the typing at a place of a list
@@ -50,39 +45,13 @@ among-here claim list k typing found at some =
 abbrev proof_of : Option Line → Option Proof
 proof_of found = option_map (λ line. line.proof) found
 
-some_kind : (p : Proof) → kind_of (Some p) ≡ kind.Missing → ⊥
-some_kind said.Cases e = cc
-some_kind (said.Derive steps) e = cc
-some_kind (said.Logged log) e = cc
+pub chosen_own : (own rest : Option Line) (proof : Proof) → Some proof ≡ proof_of own → Some proof ≡ proof_of (option_or own rest)
+chosen_own None rest proof e = cc
+chosen_own (Some line) rest proof e = e
 
-pub kind_missing : (own rest : Option Line) → kind.Missing ≡ kind_of (proof_of own) → kind_of (proof_of rest) ≡ kind_of (proof_of (option_or own rest))
-kind_missing None rest e = refl
-kind_missing (Some line) rest e = absurd (some_kind line.proof (sym e))
-
-pub kind_cases : (own rest : Option Line) → kind.Cases ≡ kind_of (proof_of own) → kind.Cases ≡ kind_of (proof_of (option_or own rest))
-kind_cases None rest e = cc
-kind_cases (Some line) rest e = e
-
-pub kind_unchecked : (own rest : Option Line) → kind.Unchecked ≡ kind_of (proof_of own) → kind.Unchecked ≡ kind_of (proof_of (option_or own rest))
-kind_unchecked None rest e = cc
-kind_unchecked (Some line) rest e = e
-
--- what each sort of evidence leaves to see
-pub by_cases : (rule : Rule) (widths : List Width) (evidence : Option Proof) → kind.Cases ≡ kind_of evidence → cause_of_trial (trial_of rule widths) ≡ cause_by rule widths evidence
-by_cases rule widths None e = cc
-by_cases rule widths (Some said.Cases) e = refl
-by_cases rule widths (Some (said.Derive steps)) e = cc
-by_cases rule widths (Some (said.Logged log)) e = cc
-
-pub by_unchecked : (rule : Rule) (widths : List Width) (evidence : Option Proof) → kind.Unchecked ≡ kind_of evidence → Some cause.NotBuilt ≡ cause_by rule widths evidence
-by_unchecked rule widths None e = cc
-by_unchecked rule widths (Some said.Cases) e = cc
-by_unchecked rule widths (Some (said.Derive steps)) e = refl
-by_unchecked rule widths (Some (said.Logged log)) e = refl
-
-pub by_missing : (rule : Rule) (widths : List Width) (evidence : Option Proof) → kind.Missing ≡ kind_of evidence → Some cause.NoEvidence ≡ cause_by rule widths evidence
-by_missing rule widths None e = refl
-by_missing rule widths (Some p) e = absurd (some_kind p (sym e))
+pub chosen_all : (own rest : Option Line) (found : Option Proof) → None ≡ proof_of own → found ≡ proof_of rest → found ≡ proof_of (option_or own rest)
+chosen_all None rest found e is = is
+chosen_all (Some line) rest found e is = cc
 
 -- the refusal for sizes, and that of the first typing
 pub told_by_size : (entry : Entry) (fault : SizeFault) (refused : Refused) → refused ≡ refused_by_size (claim_of entry) fault → size_fault entry.rule ≡ Some fault

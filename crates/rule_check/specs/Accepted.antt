@@ -14,9 +14,10 @@ use Rattle.rule_term.specs.Weights.{initial_weight}
 use Rattle.size_infer.specs.SizeFaults.{size_fault}
 use Rattle.size_infer.specs.declared.fault.SizeFault.{SizeFault}
 use Rattle.rule_spelling.specs.Files as said
-use Rattle.rule_spelling.specs.Files.{Entry, Line, Proof, WeightLine}
+use Rattle.rule_spelling.specs.Files.{Entry, Line, Proof, Step, WeightLine}
 use Rattle.rule_read.specs.declared.entry.Entry as code
 use Rattle.rule_read.specs.Says.{entry_says, line_says}
+use Rattle.law_derive.specs.Derivations.{derivation_fault}
 use Rattle.rule_check.specs.declared.cases.Trial.{Trial}
 use Rattle.rule_check.specs.declared.cases.Trial.TheVariants.{Equal, Differ, TooMany}
 use Rattle.rule_check.specs.declared.refused.RuleCause.{RuleCause}
@@ -60,11 +61,15 @@ cause_of_trial Equal = None
 cause_of_trial (Differ values) = Some (cause.Cases values)
 cause_of_trial TooMany = Some cause.TooManyCases
 
--- what is wrong with the evidence at a typing, None where nothing is: derivations and logs are not checked yet
+-- what is wrong with a derivation at a typing
+abbrev pub cause_of_derivation : Rule → List Width → List Step → Option RuleCause
+cause_of_derivation rule widths steps = option_map cause.Derive (derivation_fault (record { rule = rule; widths = widths }) steps)
+
+-- what is wrong with the evidence at a typing, None where nothing is: logs are not checked yet
 abbrev pub cause_by : Rule → List Width → Option Proof → Option RuleCause
 cause_by rule widths None = Some cause.NoEvidence
 cause_by rule widths (Some said.Cases) = cause_of_trial (trial_of rule widths)
-cause_by rule widths (Some (said.Derive steps)) = Some cause.NotBuilt
+cause_by rule widths (Some (said.Derive steps)) = cause_of_derivation rule widths steps
 cause_by rule widths (Some (said.Logged log)) = Some cause.NotBuilt
 
 unfoldable pub cause_at : Claim → ℕ → List Width → Option RuleCause

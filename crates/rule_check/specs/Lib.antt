@@ -2,6 +2,7 @@ pub mod Accepted
 pub mod Answers
 pub mod Cases
 pub mod Lines
+pub mod OptionsLaws
 pub mod SaidLaws
 pub mod CasesLaws
 pub mod Verdicts

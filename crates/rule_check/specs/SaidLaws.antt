@@ -1,4 +1,4 @@
--- The refusal of an entry of the code is that of what it says: sizes and trials do not look at options.
+-- The refusal of an entry of the code is that of what it says: sizes, trials and derivations do not look at options.
 use Rattle.std.specs.Prelude.{◌≡◌, refl, ◌+◌, ℕ, Option, Some, None, List, [], ◌∷◌}
 use Rattle.std.specs.Option.{option_map, option_or}
 use Rattle.std.proofs.Common.{ap, sym, ◌∙◌}
@@ -11,13 +11,11 @@ use Rattle.size_infer.specs.declared.fault.SizeFault.{SizeFault}
 use Rattle.rule_spelling.specs.Files as said
 use Rattle.rule_spelling.specs.Files.{Proof}
 use Rattle.rule_read.specs.declared.entry.Entry.{Entry}
-use Rattle.rule_read.specs.Says.{entry_says, rule_says}
-use Rattle.rule_check.specs.Accepted.{bare, cause_at, cause_by, cause_of_trial, chosen_line, claim_of, claim_said, refusal_of, refusal_on, refused_among, refused_at, refused_for}
+use Rattle.rule_read.specs.Says.{entry_says}
+use Rattle.rule_check.specs.Accepted.{cause_at, cause_by, cause_of_trial, chosen_line, claim_of, claim_said, refusal_of, refusal_on, refused_among, refused_at, refused_for}
 use Rattle.rule_check.specs.Cases.{differs_at, first_difference, trial_of, var_width}
-
--- a rule without its options
-abbrev plain : Rule → Rule
-plain rule = bare (rule_says rule)
+use Rattle.rule_check.specs.OptionsLaws.{plain, derived_plainly}
+use Rattle.rule_check.specs.declared.refused.RuleCause.TheVariants as cause
 
 plain_typings : (rule : Rule) → typings (plain rule) ≡ typings rule
 unfolding typings is_typing
@@ -34,7 +32,7 @@ plain_trial rule widths = refl
 plain_cause : (rule : Rule) (widths : List Width) (evidence : Option Proof) → cause_by (plain rule) widths evidence ≡ cause_by rule widths evidence
 plain_cause rule widths None = refl
 plain_cause rule widths (Some said.Cases) = ap cause_of_trial (plain_trial rule widths)
-plain_cause rule widths (Some (said.Derive steps)) = refl
+plain_cause rule widths (Some (said.Derive steps)) = ap (option_map cause.Derive) (derived_plainly rule widths steps)
 plain_cause rule widths (Some (said.Logged log)) = refl
 
 said_cause : (entry : Entry) (number : ℕ) (widths : List Width) → cause_at (claim_said (entry_says entry)) number widths ≡ cause_at (claim_of entry) number widths

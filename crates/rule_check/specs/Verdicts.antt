@@ -13,6 +13,8 @@ use Rattle.rule_term.specs.Holds.{values_of, are_words, are_met, EqualAt, Holds}
 use Rattle.size_infer.specs.SizeFaults.{IsSizeFault, size_fault}
 use Rattle.rule_spelling.specs.Files as said
 use Rattle.rule_spelling.specs.Files.{Proof}
+use Rattle.law_derive.specs.declared.fault.DeriveFault.{DeriveFault}
+use Rattle.law_derive.specs.Derivations.{derivation_fault}
 use Rattle.rule_read.specs.declared.entry.Entry.{Entry}
 use Rattle.rule_read.specs.Says.{entry_says}
 use Rattle.rule_check.specs.declared.refused.RuleCause.{RuleCause}
@@ -39,23 +41,37 @@ pub record IsFirstDifference (rule : Rule) (widths : List Width) (values : List 
   pub differ : AreEqualAt rule widths values → ⊥
   pub first : (others : List ℕ) → MayStand rule widths others → slice_cmp nat_cmp others values ≡ Less → AreEqualAt rule widths others
 
--- the evidence is the trial of all cases, or is not checked yet
+-- the evidence is the trial of all cases
 abbrev pub IsTrial : Option Proof → Type 0
 IsTrial None = ⊥
 IsTrial (Some said.Cases) = Unit {0}
 IsTrial (Some (said.Derive steps)) = ⊥
 IsTrial (Some (said.Logged log)) = ⊥
 
+-- it is a derivation, with this fault
+abbrev pub IsDerivedWith : Rule → List Width → DeriveFault → Option Proof → Type 0
+IsDerivedWith rule widths wrong None = ⊥
+IsDerivedWith rule widths wrong (Some said.Cases) = ⊥
+IsDerivedWith rule widths wrong (Some (said.Derive steps)) = derivation_fault (record { rule = rule; widths = widths }) steps ≡ Some wrong
+IsDerivedWith rule widths wrong (Some (said.Logged log)) = ⊥
+
+-- it is not checked yet
 abbrev pub IsUnchecked : Option Proof → Type 0
 IsUnchecked None = ⊥
 IsUnchecked (Some said.Cases) = ⊥
-IsUnchecked (Some (said.Derive steps)) = Unit {0}
+IsUnchecked (Some (said.Derive steps)) = ⊥
 IsUnchecked (Some (said.Logged log)) = Unit {0}
 
--- the evidence at a typing is good: all cases can be tried, and the sides are equal
+-- it goes through: all cases can be tried, or nothing is wrong with the derivation
+abbrev pub GoesThrough : Rule → List Width → Option Proof → Type 0
+GoesThrough rule widths None = ⊥
+GoesThrough rule widths (Some said.Cases) = free_bits rule widths ≤ 16
+GoesThrough rule widths (Some (said.Derive steps)) = derivation_fault (record { rule = rule; widths = widths }) steps ≡ None
+GoesThrough rule widths (Some (said.Logged log)) = ⊥
+
+-- the evidence at a typing is good: it goes through, and the sides are equal
 pub record IsGood (rule : Rule) (widths : List Width) (evidence : Option Proof) : Type 0 where
-  pub trial : IsTrial evidence
-  pub few : free_bits rule widths ≤ 16
+  pub through : GoesThrough rule widths evidence
   pub equal : EqualAt rule widths
 
 -- it is not, for this cause
@@ -64,6 +80,7 @@ IsBad rule widths evidence (cause.Size fault) = ⊥
 IsBad rule widths evidence cause.NoEvidence = evidence ≡ None
 IsBad rule widths evidence (cause.Cases values) = IsTrial evidence × (free_bits rule widths ≤ 16) × IsFirstDifference rule widths values
 IsBad rule widths evidence cause.TooManyCases = IsTrial evidence × (16 < free_bits rule widths)
+IsBad rule widths evidence (cause.Derive wrong) = IsDerivedWith rule widths wrong evidence
 IsBad rule widths evidence cause.NotBuilt = IsUnchecked evidence
 
 -- each typing before this one has good evidence
@@ -84,6 +101,7 @@ IsCause claim None (cause.Size fault) = IsSizeFault claim.rule fault
 IsCause claim None cause.NoEvidence = ⊥
 IsCause claim None (cause.Cases values) = ⊥
 IsCause claim None cause.TooManyCases = ⊥
+IsCause claim None (cause.Derive wrong) = ⊥
 IsCause claim None cause.NotBuilt = ⊥
 IsCause claim (Some number) cause = IsFirstBad claim number cause
 

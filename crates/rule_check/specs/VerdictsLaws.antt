@@ -21,9 +21,13 @@ use Rattle.size_infer.specs.SizeFaults.{size_fault}
 use Rattle.size_infer.specs.SizeFaultsLaws.{fault_means, none_means}
 use Rattle.size_infer.specs.declared.fault.SizeFault.{SizeFault}
 use Rattle.rule_spelling.specs.Files as said
-use Rattle.rule_spelling.specs.Files.{Proof}
+use Rattle.rule_spelling.specs.Files.{Proof, Step}
+use Rattle.law_derive.specs.declared.fault.DeriveFault.{DeriveFault}
+use Rattle.law_derive.specs.Derivations.{derivation_fault}
+use Rattle.law_derive.specs.DerivationsLaws.{derivations_are_sound}
 use Rattle.rule_check.specs.declared.cases.Trial.TheVariants as trial
 use Rattle.rule_check.specs.declared.refused.RuleCause.{RuleCause}
+use Rattle.rule_check.specs.declared.refused.RuleCause.TheVariants as cause
 use Rattle.rule_check.specs.declared.refused.Refused.{Refused}
 use Rattle.rule_check.specs.Accepted.{cause_of_trial, cause_by, cause_at, chosen_line, Claim, claim_of, refused_at, refused_by_size, refused_among, refused_for, refusal_on}
 use Rattle.rule_check.specs.Cases.{trial_answer, trial_of, var_bits, free_bits, tuple, tuples, differs_at, first_difference}
@@ -130,13 +134,19 @@ Judged rule widths evidence None = IsGood rule widths evidence
 Judged rule widths evidence (Some cause) = IsBad rule widths evidence cause
 
 judged_by_trial : (rule : Rule) (widths : List Width) (found : Option RuleCause) → Told rule widths found → Judged rule widths (Some said.Cases) found
-judged_by_trial rule widths None told = record { trial = tt; few = told.0; equal = told.1 }
+judged_by_trial rule widths None told = record { through = told.0; equal = told.1 }
 judged_by_trial rule widths (Some cause) told = told
+
+judged_by_derivation : (rule : Rule) → IsFormed rule → (widths : List Width) → is_typing rule widths ≡ true → (steps : List Step) (found : Option DeriveFault)
+    → derivation_fault (record { rule = rule; widths = widths }) steps ≡ found → Judged rule widths (Some (said.Derive steps)) (option_map cause.Derive found)
+judged_by_derivation rule formed widths typing steps None is = record { through = is; equal = derivations_are_sound rule widths steps formed typing is }
+judged_by_derivation rule formed widths typing steps (Some wrong) is = is
 
 judged_by : (rule : Rule) → IsFormed rule → (widths : List Width) → is_typing rule widths ≡ true → (evidence : Option Proof) → Judged rule widths evidence (cause_by rule widths evidence)
 judged_by rule formed widths typing None = refl
 judged_by rule formed widths typing (Some said.Cases) = judged_by_trial rule widths (cause_of_trial (trial_of rule widths)) (told_of_trial rule formed widths typing)
-judged_by rule formed widths typing (Some (said.Derive steps)) = tt
+judged_by rule formed widths typing (Some (said.Derive steps)) =
+    judged_by_derivation rule formed widths typing steps (derivation_fault (record { rule = rule; widths = widths }) steps) refl
 judged_by rule formed widths typing (Some (said.Logged log)) = tt
 
 judged : (claim : Claim) → IsFormed claim.rule → (number : ℕ) (widths : List Width) → is_typing claim.rule widths ≡ true → Judged claim.rule widths (chosen_line number claim.lines) (cause_at claim number widths)

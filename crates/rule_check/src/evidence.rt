@@ -3,32 +3,22 @@
 ghost use Rattle.std.specs.Prelude.{◌≡◌, ◌≤◌, true, length, find, map, IfOk, Some};
 ghost use Rattle.std.specs.List.{All};
 ghost use Rattle.std.specs.Option.{option_map};
-ghost use Rattle.rule_check.specs.Lines.{is_for, kind_of};
+ghost use Rattle.rule_check.specs.Lines.{is_for};
 ghost use Rattle.rule_term.specs.Formed.{IsFormed};
 ghost use Rattle.rule_term.specs.Typings.{is_typing};
 ghost use Rattle.size_infer.specs.Grown.{all_widths_of};
-ghost use Rattle.rule_read.specs.Says.{entry_says, line_says, proof_says};
-ghost use Rattle.rule_check.specs.Accepted.{cause_at, cause_of_trial, chosen_line, claim_of, refusal_of, refused_among, refused_by_size};
+ghost use Rattle.rule_read.specs.Says.{entry_says, line_says, proof_says, step_says};
+ghost use Rattle.rule_check.specs.Accepted.{cause_at, cause_of_derivation, cause_of_trial, chosen_line, claim_of, refusal_of, refused_among, refused_by_size};
 ghost use Rattle.rule_check.specs.Cases.{trial_of};
 
 use crate::cases::{Trial, try_cases};
 use crate::refused::{Refused, RuleCause};
+use law_derive::{DeriveFault, check_derivation};
 use nir_host::OutOfMemory;
-use rule_read::{Entry, Line, Proof};
+use rule_read::{Derivation, Entry, Line, Proof};
 use rule_term::{Rule, Typing};
 use size_infer::{SizeFault, typings};
 use std::alloc::Global;
-
-/// What stands in a line of evidence, so far as it is looked at.
-#[derive(Clone, Copy, Debug)]
-enum Kind {
-    /// The trial of all cases.
-    Cases,
-    /// A derivation or a log.
-    Unchecked,
-    /// There is no line.
-    Missing,
-}
 
 /// Why the rule is not accepted, None where it is: the fault of its sizes, else the first typing without good evidence.
 /// What memory it takes is free again at the end, but for the values that it answers.
@@ -75,7 +65,7 @@ fn refused_among(
 }
 
 /// What is wrong with the evidence at the typing of the number.
-#[tactic(auto, using(crate::proofs::EvidenceLemmas::by_cases, crate::proofs::EvidenceLemmas::by_unchecked, crate::proofs::EvidenceLemmas::by_missing), unfolding(crate::specs::Accepted::cause_at))]
+#[tactic(auto, unfolding(crate::specs::Accepted::cause_at))]
 fn cause_at(
     alloc: Global,
     entry: &Entry,
@@ -85,10 +75,11 @@ fn cause_at(
     requires { is_typing entry.now.rule typing.now.widths ≡ true }
     ensures { IfOk result (λ cause. cause ≡ cause_at (claim_of entry.now) number typing.now.widths) }
 {
-    match kind_chosen(entry.lines.as_slice(), number) {
-        Kind::Cases => cause_of_trial(alloc, &entry.rule, typing),
-        Kind::Unchecked => Ok(Some(RuleCause::NotBuilt)),
-        Kind::Missing => Ok(Some(RuleCause::NoEvidence)),
+    match chosen_proof(entry.lines.as_slice(), number) {
+        Some(Proof::Cases) => cause_of_trial(alloc, &entry.rule, typing),
+        Some(Proof::Derive(steps)) => cause_of_derivation(alloc, &entry.rule, typing, steps),
+        Some(Proof::Logged(_)) => Ok(Some(RuleCause::NotBuilt)),
+        None => Ok(Some(RuleCause::NoEvidence)),
     }
 }
 
@@ -108,28 +99,50 @@ fn cause_of_trial(
     }
 }
 
+/// What is wrong with a derivation at the typing.
+fn cause_of_derivation(
+    alloc: Global,
+    rule: &Rule,
+    typing: &Typing,
+    derivation: &Derivation,
+) -> Result<Option<RuleCause>, OutOfMemory>
+    requires { is_typing rule.now typing.now.widths ≡ true }
+    ensures { IfOk result (λ cause. cause ≡ cause_of_derivation rule.now typing.now.widths (map step_says derivation.now)) }
+{
+    match check_derivation(alloc, rule, typing, derivation) {
+        Ok(()) => Ok(None),
+        Err(DeriveFault::NoLaw(step)) => Ok(Some(RuleCause::Derive(DeriveFault::NoLaw(step)))),
+        Err(DeriveFault::BadPath(step)) => Ok(Some(RuleCause::Derive(DeriveFault::BadPath(step)))),
+        Err(DeriveFault::NoMatch(step)) => Ok(Some(RuleCause::Derive(DeriveFault::NoMatch(step)))),
+        Err(DeriveFault::CondMissing(step)) => {
+            Ok(Some(RuleCause::Derive(DeriveFault::CondMissing(step))))
+        }
+        Err(DeriveFault::WrongEnd) => Ok(Some(RuleCause::Derive(DeriveFault::WrongEnd))),
+        Err(DeriveFault::OutOfMemory) => Err(OutOfMemory),
+    }
+}
+
 /// The evidence at the typing of the number: the first line for it alone, else the first for all typings.
-#[tactic(auto, using(crate::proofs::EvidenceLemmas::kind_missing, crate::proofs::EvidenceLemmas::kind_cases, crate::proofs::EvidenceLemmas::kind_unchecked))]
-fn kind_chosen(lines: &[Line], number: u32) -> Kind
-    ensures { result ≡ kind_of (chosen_line number (map line_says lines.now)) }
+#[tactic(auto, using(crate::proofs::EvidenceLemmas::chosen_own, crate::proofs::EvidenceLemmas::chosen_all))]
+fn chosen_proof<'a>(lines: &'a [Line], number: u32) -> Option<&'a Proof>
+    ensures { option_map (λ proof. proof_says proof.now) result ≡ chosen_line number (map line_says lines.now) }
 {
     match first_by(lines, Some(number)) {
-        Kind::Missing => first_by(lines, None),
-        Kind::Cases => Kind::Cases,
-        Kind::Unchecked => Kind::Unchecked,
+        Some(proof) => Some(proof),
+        None => first_by(lines, None),
     }
 }
 
 /// The evidence of the first line for this typing, or for all typings.
-fn first_by(lines: &[Line], typing: Option<u32>) -> Kind
-    ensures { result ≡ kind_of (option_map (λ line. line.proof) (find (is_for typing) (map line_says lines.now))) }
+fn first_by<'a>(lines: &'a [Line], typing: Option<u32>) -> Option<&'a Proof>
+    ensures { option_map (λ proof. proof_says proof.now) result ≡ option_map (λ line. line.proof) (find (is_for typing) (map line_says lines.now)) }
 {
     for line in lines {
         if is_for(line, typing) {
-            return kind_of(&line.proof);
+            return Some(&line.proof);
         }
     }
-    Kind::Missing
+    None
 }
 
 /// Whether the line is for this typing, or for all.
@@ -140,16 +153,6 @@ fn is_for(line: &Line, typing: Option<u32>) -> bool
         (Some(own), Some(sought)) => own == sought,
         (None, None) => true,
         (Some(_), None) | (None, Some(_)) => false,
-    }
-}
-
-fn kind_of(proof: &Proof) -> Kind
-    ensures { result ≡ kind_of (Some (proof_says proof.now)) }
-{
-    match proof {
-        Proof::Cases => Kind::Cases,
-        Proof::Derive(_) => Kind::Unchecked,
-        Proof::Logged(_) => Kind::Unchecked,
     }
 }
 

@@ -1,4 +1,5 @@
-//! Judging the evidence of rules: at each typing of a rule the trial of all cases.
+//! Judging the evidence of rules: at each typing of a rule the trial of all cases, or a derivation by laws. What a derivation is, and
+//! whether one goes through, is the matter of `law_derive`.
 #![tactic(auto)]
 
 mod cases;

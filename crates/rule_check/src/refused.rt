@@ -4,6 +4,7 @@ ghost use Rattle.std.specs.Prelude.{◌≡◌};
 ghost use Rattle.rule_check.specs.declared.refused.CheckFault.TheVariants.{OutOfMemory as NoMemory};
 
 use crate::values::Values;
+use law_derive::DeriveFault;
 use nir_host::{OutOfMemory, Seq};
 use rule_term::Table;
 use size_infer::SizeFault;
@@ -19,7 +20,10 @@ pub enum RuleCause {
     Cases(Values),
     /// All cases were to be tried, and the variables have more than 16 bits.
     TooManyCases,
-    /// The evidence is a derivation or a log, which is not checked yet.
+    /// The evidence is a derivation: the first step that does not apply, and why, or that it ends elsewhere. Want of memory
+    /// never stands here.
+    Derive(DeriveFault),
+    /// The evidence is a log, which is not checked yet.
     NotBuilt,
 }
 

@@ -132,7 +132,7 @@ buffers 0
 ";
 
 /// The text at a bit size.
-fn at_size(alloc: Global, text: &[u8], size: &[u8]) -> Result<Vec<u8>, AllocError> {
+pub(crate) fn at_size(alloc: Global, text: &[u8], size: &[u8]) -> Result<Vec<u8>, AllocError> {
     let mut bytes = Vec::new(alloc);
     for byte in text {
         if *byte == b'N' {

@@ -3,6 +3,10 @@
 #![tactic(auto)]
 
 #[cfg(test)]
+mod derivation_rows;
+#[cfg(test)]
+mod derivations;
+#[cfg(test)]
 mod every_size;
 #[cfg(test)]
 mod formulas;

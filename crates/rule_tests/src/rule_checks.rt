@@ -1,5 +1,6 @@
 //! Texts of rules, and what checking them answers: all of them at once, and with what is not accepted left out.
 
+use law_derive::DeriveFault;
 use rule_check::{CheckFault, Refused, RuleCause, check_file, check_file_skipping};
 use rule_read::{RuleFile, read_rules};
 use rule_term::Table;
@@ -95,8 +96,19 @@ fn show_fault(out: &mut String, fault: SizeFault) -> Result<(), AllocError> {
     }
 }
 
+fn show_derive(out: &mut String, fault: DeriveFault) -> Result<(), AllocError> {
+    match fault {
+        DeriveFault::NoLaw(step) => write!(out, "derivation step {step}: no law"),
+        DeriveFault::BadPath(step) => write!(out, "derivation step {step}: bad path"),
+        DeriveFault::NoMatch(step) => write!(out, "derivation step {step}: no match"),
+        DeriveFault::CondMissing(step) => write!(out, "derivation step {step}: condition missing"),
+        DeriveFault::WrongEnd => out.push_str("derivation ends elsewhere"),
+        DeriveFault::OutOfMemory => out.push_str("out of memory"),
+    }
+}
+
 /// The refusal in words.
-fn show_refused(out: &mut String, refused: &Refused) -> Result<(), AllocError> {
+pub(crate) fn show_refused(out: &mut String, refused: &Refused) -> Result<(), AllocError> {
     write!(out, "rule {}", refused.rule)?;
     if let Some(typing) = refused.typing {
         write!(out, " typing {typing}")?;
@@ -113,6 +125,7 @@ fn show_refused(out: &mut String, refused: &Refused) -> Result<(), AllocError> {
             Ok(())
         }
         RuleCause::TooManyCases => out.push_str("too many cases"),
+        RuleCause::Derive(fault) => show_derive(out, *fault),
         RuleCause::NotBuilt => out.push_str("not built"),
     }
 }

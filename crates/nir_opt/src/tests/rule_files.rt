@@ -252,12 +252,12 @@ static CAUSES: [Case; 9] = [
         notes: b"rules: rule 0 typing 1: cases differ at 32\n",
         ..NOT_ACCEPTED
     },
-    // derivations and logs are read, and not checked yet
     Case {
         rules: Text::Whole(b"[(('udiv', a, 1), a), by * derive [(57, [])]]"),
-        notes: b"rules: rule 0 typing 0: not built\n",
+        notes: b"rules: rule 0 typing 0: derivation step 0: no law\n",
         ..NOT_ACCEPTED
     },
+    // logs are read, and not checked yet
     Case {
         rules: Text::Whole(b"[(('udiv', a, 1), a), by * log [([1, -2], [3])]]"),
         notes: b"rules: rule 0 typing 0: not built\n",
