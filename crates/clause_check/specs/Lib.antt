@@ -1,1 +1,4 @@
 pub mod Literals
+pub mod Logs
+pub mod LogsLaws
+pub mod Marked
