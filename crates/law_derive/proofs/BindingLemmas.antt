@@ -1,6 +1,5 @@
 -- Letters and their expressions, by the first of the bindings that are left.
 use Rattle.std.proofs.Common.{◌≡◌, ℕ, ◌+◌, ◌<◌, List, [], ◌∷◌, ◌++◌, length, get_or, drop, map, Option, Some, None, refl, sym, ap, ◌∙◌, append_assoc}
-use Rattle.std.specs.Option.{option_map}
 use Rattle.std.proofs.lemmas.List.{drop_more}
 use Rattle.nir_ops.specs.declared.width.Width.{Width}
 use Rattle.rule_read.specs.declared.derivation.Binding.{Binding}

@@ -19,7 +19,7 @@ use Rattle.op_laws.specs.Bits.{iand_commutes, iand_associates, iand_itself, iand
 use Rattle.op_laws.specs.Orders.{idiv_one, irem_one, ieq_itself, ieq_commutes, ine_is_inot, ige_is_inot, uge_is_inot, ilt_itself, ult_itself, ieq_isub, ult_zero, ult_one, bcsel_true, bcsel_false, bcsel_same, bcsel_inot, imin_is_bcsel, imax_is_bcsel, umin_is_bcsel, umax_is_bcsel}
 use Rattle.op_laws.specs.Powers.{imul_power, imul_negated_power, udiv_power, umod_power, ishl_zero, ushr_zero}
 use Rattle.op_laws.specs.Sums.{iadd_commutes, iadd_associates, iadd_zero, iadd_ineg, isub_is_iadd, ineg_ineg, ineg_is_inot, imul_commutes, imul_associates, imul_zero, imul_one, imul_distributes, imul_ones}
-use Rattle.law_derive.specs.LawsHold.{LawsHold, word_of}
+use Rattle.law_derive.specs.LawsHold.{LawsHold}
 
 -- ---- the words of numbers
 

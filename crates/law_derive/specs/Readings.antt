@@ -1,5 +1,5 @@
 -- A law read at a term in parts: the size at which it is read with what its letters stand for there, and the expressions that are bound to letters.
-use Rattle.std.specs.Prelude.{ℕ, Bool, ◌&&◌, List, [], ◌∷◌, ◌++◌, Option, Some, None, Result, Ok, Err, is_none, if◌then◌else◌}
+use Rattle.std.specs.Prelude.{ℕ, Bool, ◌&&◌, List, [], ◌∷◌, ◌++◌, Option, Some, None, Result, Err, is_none, if◌then◌else◌}
 use Rattle.std.specs.Option.{option_map}
 use Rattle.nir_ops.specs.declared.width.Width.{Width}
 use Rattle.rule_term.specs.Terms.{Terms}

@@ -1,8 +1,7 @@
 -- Reading a law in parts makes what the definition makes.
-use Rattle.std.proofs.Common.{◌≡◌, ℕ, Bool, true, List, [], ◌∷◌, Option, Some, None, Err, Result, refl, sym, ap, ◌∙◌, ⊎_elim}
+use Rattle.std.proofs.Common.{◌≡◌, ℕ, Bool, true, List, [], ◌∷◌, Option, Some, None, Err, refl, sym, ap, ◌∙◌}
 use Rattle.std.specs.Prelude.{◌&&◌, false, is_none, if◌then◌else◌}
 use Rattle.std.specs.Option.{option_map}
-use Rattle.std.proofs.lemmas.Bool.{cases_Bool}
 use Rattle.nir_ops.specs.declared.width.Width.{Width}
 use Rattle.rule_term.specs.Terms.{Terms}
 use Rattle.rule_spelling.specs.Files.{Binding}

@@ -100,11 +100,7 @@ pub(crate) fn fill_all<'a>(
     Ok(true)
 }
 
-fn fill_one<'a>(
-    law: &Law,
-    bound: &'a Bound,
-    filling: &mut Filling<'a>,
-) -> Result<bool, OutOfMemory>
+fn fill_one<'a>(law: &Law, bound: &'a Bound, filling: &mut Filling<'a>) -> Result<bool, OutOfMemory>
     ensures { IfOk result (λ is. fill_one (law_says law.now) bound.now.letter bound.now.nodes (filling_says filling.old.items) ≡ answer_of is (filling_says filling.new.items)) }
 {
     if !has_letter(law, bound.letter) {

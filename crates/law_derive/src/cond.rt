@@ -18,11 +18,7 @@ use crate::setting::Setting;
 use rule_term::{Cond, Term, cond_holds};
 
 /// Whether what stands for c meets the condition: a number, or a variable with the condition on some occurrence of the search side.
-pub(crate) fn cond_met(
-    setting: &Setting<'_>,
-    cond: Option<Cond>,
-    filling: &[Filled<'_>],
-) -> bool
+pub(crate) fn cond_met(setting: &Setting<'_>, cond: Option<Cond>, filling: &[Filled<'_>]) -> bool
     requires { FillingStands (setting_says setting.now) (filling_says filling.now) }
     ensures { result ≡ cond_met (setting_says setting.now) cond (filling_says filling.now) }
 {

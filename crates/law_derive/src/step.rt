@@ -136,12 +136,7 @@ fn first_term(nodes: &[Node]) -> &[Node]
 }
 
 /// The term with a part in the place of the one that begins there.
-fn put_at(
-    alloc: Global,
-    nodes: &[Node],
-    place: usize,
-    made: Made,
-) -> Result<Made, OutOfMemory>
+fn put_at(alloc: Global, nodes: &[Node], place: usize, made: Made) -> Result<Made, OutOfMemory>
     requires { place ≤ length nodes.now }
     ensures { IfOk result (λ put. put ≡ put_at place nodes.now made) }
 {

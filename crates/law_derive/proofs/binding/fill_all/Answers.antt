@@ -1,7 +1,7 @@
-use Rattle.std.proofs.Common.{rules, ◌≡◌, ◌∙◌, ◌+◌, sym, ap, drop, map, None, Some, true, false}
+use Rattle.std.proofs.Common.{rules, ◌≡◌, ◌∙◌, ◌+◌, sym, ap, drop, map, None, Some}
 use Rattle.law_derive.specs.Derivations.{bound_others}
 use Rattle.law_derive.specs.Readings.{bound_says, fill_all, fill_one}
-use Rattle.law_derive.specs.Views.{answer_of, filling_says, law_says}
+use Rattle.law_derive.specs.Views.{filling_says, law_says}
 use Rattle.law_derive.proofs.BindingLemmas.{fill_step}
 use Rattle.law_derive.proofs.binding.fill_all.Goals as goal
 

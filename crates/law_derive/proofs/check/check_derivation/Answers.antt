@@ -1,11 +1,10 @@
-use Rattle.std.proofs.Common.{rules, ◌≡◌, ◌∙◌, sym, subst, map, None}
+use Rattle.std.proofs.Common.{rules, ◌≡◌, sym, subst, map, None}
 use Rattle.rule_term.specs.Formed.{IsFormed}
 use Rattle.rule_term.specs.Typings.{search_part}
 use Rattle.rule_read.specs.Says.{step_says}
 use Rattle.law_derive.specs.Derivations.{Setting, derivation_fault, derive_from}
 use Rattle.law_derive.specs.Nodes.{nodes_of}
 use Rattle.law_derive.specs.DerivationsLaws.{derivations_are_sound, search_stands}
-use Rattle.law_derive.specs.Settings.{setting_says}
 use Rattle.law_derive.specs.StandingLaws.{IsTermAt}
 use Rattle.law_derive.proofs.check.check_derivation.Goals as goal
 

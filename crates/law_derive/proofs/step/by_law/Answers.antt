@@ -3,7 +3,7 @@ use Rattle.std.specs.Option.{option_map}
 use Rattle.rule_read.specs.Says.{binding_says}
 use Rattle.law_derive.specs.Derivations.{size_read}
 use Rattle.law_derive.specs.FillingLaws.{filling_stands}
-use Rattle.law_derive.specs.Readings.{bound_says, exprs_of, fill_all, fill_with, reading_says}
+use Rattle.law_derive.specs.Readings.{bound_says, fill_all, fill_with, reading_says}
 use Rattle.law_derive.specs.ReadingsLaws.{by_law_from, by_law_none}
 use Rattle.law_derive.specs.Settings.{setting_says}
 use Rattle.law_derive.specs.Stepping.{FillingStands}

@@ -1,6 +1,4 @@
 use Rattle.std.proofs.Common.{rules, ◌≡◌, ◌∙◌, ◌+◌, ◌++◌, ◌∷◌, [], sym, ap, drop, append_assoc}
-use Rattle.std.proofs.lemmas.List.{take_rest}
-use Rattle.nir_ops.specs.declared.width.Width.{Width}
 use Rattle.rule_term.specs.Terms.{terms_of}
 use Rattle.rule_term.specs.Typings.{first_of, size_of}
 use Rattle.law_derive.specs.declared.node.Kind.TheVariants.{App}
