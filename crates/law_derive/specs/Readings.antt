@@ -1,10 +1,12 @@
 -- A law read at a term in parts: the size at which it is read with what its letters stand for there, and the expressions that are bound to letters.
-use Rattle.std.specs.Prelude.{ℕ, Bool, ◌&&◌, List, [], ◌∷◌, ◌++◌, Option, Some, None, Result, Err, is_none, if◌then◌else◌}
+use Rattle.std.specs.Prelude.{ℕ, Bool, true, false, ◌&&◌, List, [], ◌∷◌, ◌++◌, Option, Some, None, Result, Err, is_none, if◌then◌else◌}
 use Rattle.std.specs.Option.{option_map}
 use Rattle.nir_ops.specs.declared.width.Width.{Width}
+use Rattle.op_eval.specs.Calls.{same_width}
 use Rattle.rule_term.specs.Terms.{Terms}
 use Rattle.rule_spelling.specs.Files.{Binding}
 use Rattle.law_derive.specs.declared.binding.Bound as code_bound
+use Rattle.law_derive.specs.declared.law.LawNode.{LawNode}
 use Rattle.law_derive.specs.declared.node.Node.{Node}
 use Rattle.law_derive.specs.declared.reading.Reading as code_reading
 use Rattle.law_derive.specs.Derivations.{Setting, StepFault, bound_others, complete, expr_nodes, from_at, has_letter, letter_named, letter_size}
@@ -20,6 +22,12 @@ reading_says reading = option_map (λ r. (r.width, filling_says r.filling.items)
 
 abbrev pub filled_at : Width → Option Filling → Option (Width × Filling)
 filled_at width filling = option_map (λ f. (width, f)) filling
+
+-- whether a side whose value has this size can match a term: the term has the size too
+abbrev pub may_match : Width → List LawNode → List Node → Bool
+may_match size [] nodes = true
+may_match size (part ∷ side) [] = false
+may_match size (part ∷ side) (node ∷ nodes) = same_width size node.width
 
 -- a size, with what the letters stand for where the law matches at it
 abbrev pub read_of : Law → Bool → List Node → Option Width → Option (Width × Filling)

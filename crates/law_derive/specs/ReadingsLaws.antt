@@ -6,13 +6,19 @@ use Rattle.nir_ops.specs.declared.width.Width.{Width}
 use Rattle.rule_term.specs.Terms.{Terms}
 use Rattle.rule_spelling.specs.Files.{Binding}
 use Rattle.law_derive.specs.declared.node.Node.{Node}
+use Rattle.nir_ops.specs.Width.{width_bits}
+use Rattle.op_eval.specs.Calls.{same_width}
+use Rattle.op_eval.specs.Word.{residue}
+use Rattle.std.proofs.Math.Bool.{and-false}
+use Rattle.law_derive.specs.declared.law.LawNode.{LawNode}
+use Rattle.law_derive.specs.declared.law.LawNode.TheVariants as law_node
 use Rattle.law_derive.specs.declared.node.Kind.{Kind}
 use Rattle.law_derive.specs.declared.node.Kind.TheVariants.{App, Var, Lit}
-use Rattle.law_derive.specs.Derivations.{Setting, bound, bound_letter, bound_others, by_law, complete, expr_nodes, from_at, has_letter, letter_named, letter_size, matched, read_at, size_of_expr, size_read, with_letter}
+use Rattle.law_derive.specs.Derivations.{Setting, bound, bound_letter, bound_others, by_law, complete, expr_nodes, from_at, from_side, has_letter, letter_named, letter_size, matched, read_at, size_of_expr, size_read, with_letter}
 use Rattle.law_derive.specs.declared.fault.StepFault.TheVariants.{NoMatch}
-use Rattle.law_derive.specs.LawTable.{Law}
-use Rattle.law_derive.specs.Matching.{Filling, found, match_side}
-use Rattle.law_derive.specs.Readings.{before, expr_of, exprs_of, fill_all, fill_one, fill_with, filled_at, made_of, read_of}
+use Rattle.law_derive.specs.LawTable.{Law, root_size, sized}
+use Rattle.law_derive.specs.Matching.{Filling, found, match_kind, match_side}
+use Rattle.law_derive.specs.Readings.{before, expr_of, exprs_of, fill_all, fill_one, fill_with, filled_at, made_of, may_match, read_of}
 
 -- ---- bound letters
 
@@ -86,3 +92,26 @@ root_of node rest (Lit word) is = rw is refl
 -- that of its first node
 pub size_of_first : (node : Node) (rest : List Node) → size_of_expr (Some (node ∷ rest)) ≡ Some node.width
 size_of_first node rest = root_of node rest node.kind refl
+
+-- ---- first nodes
+
+apart : (part node : Node) (side nodes : List Node) (kind : Kind) → same_width part.width node.width ≡ false → match_kind kind part node nodes [] (match_side side) ≡ None
+apart part node side nodes (App op) other = rw (other, and-false) refl
+apart part node side nodes (Var letter) other = rw other refl
+apart part node side nodes (Lit word) other = rw (other, and-false) refl
+
+sized_apart : (width size : Width) (side : List LawNode) (nodes : List Node) → may_match size side nodes ≡ false → match_side (sized width side (size ∷ [])) nodes [] ≡ None
+sized_apart width size [] nodes other = cc
+sized_apart width size (law_node.App op ∷ side) [] other = refl
+sized_apart width size (law_node.Letter letter ∷ side) [] other = refl
+sized_apart width size (law_node.Lit value boolean ∷ side) [] other = refl
+sized_apart width size (law_node.App op ∷ side) (node ∷ nodes) other = apart (record { kind = App op; width = size }) node _ nodes (App op) other
+sized_apart width size (law_node.Letter letter ∷ side) (node ∷ nodes) other = apart (record { kind = Var letter; width = size }) node _ nodes (Var letter) other
+sized_apart width size (law_node.Lit value boolean ∷ side) (node ∷ nodes) other =
+    apart (record { kind = Lit (residue (width_bits size) value); width = size }) node _ nodes (Lit (residue (width_bits size) value)) other
+
+-- a side matches no term of another size
+pub none_matches : (law : Law) (rev : Bool) (width : Width) (nodes : List Node) → may_match (root_size width law.left) (from_side law rev) nodes ≡ false
+    → match_side (from_at law rev width) nodes [] ≡ None
+none_matches law false width nodes other = sized_apart width (root_size width law.left) law.left nodes other
+none_matches law true width nodes other = sized_apart width (root_size width law.left) law.right nodes other

@@ -8,7 +8,7 @@ ghost use Rattle.rule_read.specs.Says.{binding_says};
 ghost use Rattle.law_derive.specs.Derivations.{among, from_at, from_side, is_truth, law_sizes, matches_at, size_of_binding, size_of_expr, size_read, to_at};
 ghost use Rattle.law_derive.specs.LawTable.{left_at, right_at, root_size};
 ghost use Rattle.law_derive.specs.Matching.{match_side};
-ghost use Rattle.law_derive.specs.Readings.{filled_at, read_of, reading_says};
+ghost use Rattle.law_derive.specs.Readings.{filled_at, may_match, read_of, reading_says};
 ghost use Rattle.law_derive.specs.Settings.{IsKnown, setting_says};
 ghost use Rattle.law_derive.specs.Views.{filling_says, law_says, side_says};
 
@@ -76,6 +76,7 @@ fn first_reading<'a>(
 }
 
 /// What the letters of the law stand for at the size; None where it does not match the term there.
+#[tactic(auto, using(crate::specs::ReadingsLaws::none_matches))]
 fn read_at<'a>(
     alloc: Global,
     law: &Law,
@@ -85,12 +86,28 @@ fn read_at<'a>(
 ) -> Result<Option<Reading<'a>>, OutOfMemory>
     ensures { IfOk result (λ read. reading_says read ≡ filled_at width (match_side (from_at (law_says law.now) rev width) term.now [])) }
 {
+    if !may_match(from_side(law, rev), root_size(law.left, width), term) {
+        return Ok(None);
+    }
     let side = from_at(alloc, law, rev, width)?;
     let mut filling = Filling::new(alloc);
     if !match_side(side.as_slice(), term, &mut filling)? {
         return Ok(None);
     }
     Ok(Some(Reading { width, filling }))
+}
+
+/// Whether a side whose value has this size can match the term: the term has the size too.
+fn may_match(side: &[LawNode], size: Width, term: &[Node]) -> bool
+    ensures { result ≡ may_match size (side_says side.now) term.now }
+{
+    let Some((_part, _others)) = side.split_first() else {
+        return true;
+    };
+    match term.split_first() {
+        Some((node, _behind)) => same_width(size, node.width),
+        None => false,
+    }
 }
 
 /// The sizes of the law.
