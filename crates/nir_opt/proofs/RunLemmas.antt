@@ -46,7 +46,7 @@ pub record IsDone (options : Options) (said : Option ℕ) (table : Table) (read 
   pub settled : stopped ≡ not (is_settled options table.rules last)
   pub at_limit : stopped ≡ true → rewrites ≡ limit
   pub lighter : is_descending table ≡ true → weight_of (op_weight table) last + rewrites ≤ weight_of (op_weight table) read
-  pub unstopped : is_descending table ≡ true → weight_of (op_weight table) read < limit → stopped ≡ false
+  pub unstopped : is_descending table ≡ true → weight_of (op_weight table) read ≤ limit → stopped ≡ false
   pub shaped : IsShaped last
   pub valid : Valid last
   pub same : Same read last
@@ -57,13 +57,6 @@ limit_reached true rewrites limit either stopped = absurd (cc)
 limit_reached false rewrites limit either stopped = elim either [
   | inl is ↦ absurd (cc)
   | inr same ↦ same
-]
-
--- and its shader was no lighter than the limit allows, where each step leaves it lighter
-pub never_stopped : (settled : Bool) (rewrites limit before behind : ℕ) → (settled ≡ true) ⊎ (rewrites ≡ limit) → behind + rewrites ≤ before → before < limit → not settled ≡ false
-never_stopped settled rewrites limit before behind either lighter less = elim either [
-  | inl is ↦ ap not is
-  | inr same ↦ absurd (omega (arith, same, lighter, less))
 ]
 
 pub printed_is : (given : Given) (options : Options) (rules shader : List ℕ) (table : Table) (file : RuleFile) (read last : Shader) (journal : List Step) (rewrites limit : ℕ) (stopped : Bool) (text whole : List ℕ)

@@ -61,9 +61,9 @@ pub record IsPrinted (given : Given) (rules shader : List ℕ) (journal : List S
   -- nothing is left to do, unless the limit stopped it
   pub settled : stopped ≡ not (is_settled (options_of given) table.rules last)
   pub at_limit : stopped ≡ true → rewrites ≡ limit
-  -- by rules that lead to lighter opcodes each step leaves the shader lighter, and a limit above its weight stops nothing
+  -- by rules that lead to lighter opcodes each step leaves the shader lighter, and a limit of at least its weight stops nothing
   pub lighter : is_descending table ≡ true → weight_of (op_weight table) last + rewrites ≤ weight_of (op_weight table) read
-  pub unstopped : is_descending table ≡ true → weight_of (op_weight table) read < limit → stopped ≡ false
+  pub unstopped : is_descending table ≡ true → weight_of (op_weight table) read ≤ limit → stopped ≡ false
   -- it is shaped and valid, and means what the one that was read means
   pub shaped : IsShaped last
   pub valid : Valid last

@@ -27,7 +27,8 @@ pub struct Optimised {
 }
 
 /// Uses the rules of the table, under these options, until none matches at any value or there were as many rewrites as the limit allows. It was
-/// stopped exactly where a rule still matches somewhere. By a table that leads to lighter opcodes each rewrite leaves the shader lighter.
+/// stopped exactly where a rule still matches somewhere. By a table that leads to lighter opcodes each rewrite leaves the shader lighter,
+/// and a limit of at least the weight of the shader stops nothing.
 pub fn optimise<L: Ledger>(
     alloc: Global,
     shader: Shader,
@@ -45,7 +46,7 @@ pub fn optimise<L: Ledger>(
     ensures at_limit { IfOk result (λ done. done.stopped ≡ true → done.rewrites ≡ limit) }
     ensures lighter { IfOk result (λ done. is_descending table.now ≡ true →
         weight_of (op_weight table.now) done.shader + done.rewrites ≤ weight_of (op_weight table.now) shader) }
-    ensures unstopped { IfOk result (λ done. is_descending table.now ≡ true → weight_of (op_weight table.now) shader < limit → done.stopped ≡ false) }
+    ensures unstopped { IfOk result (λ done. is_descending table.now ≡ true → weight_of (op_weight table.now) shader ≤ limit → done.stopped ≡ false) }
     ensures shaped { IfOk result (λ done. IsShaped done.shader) }
     ensures valid { IfOk result (λ done. Valid done.shader) }
     ensures same { IfOk result (λ done. Same shader done.shader) }

@@ -112,7 +112,8 @@ fn one_pass<L: Ledger>(
 /// Does steps by the first rule that matches at a value, again and again, until no rule matches at any value or so many were done; answers how many.
 /// It goes through the values in turn, stays at each until no rule matches there, and starts over where a pass has done a step. Each step
 /// is told at the end of the journal. The shader stays valid, and means the same. After `OutOfMemory` the work and the journal stand behind whole
-/// steps. A step takes at most 64 fresh numbers, and there have to be numbers for all.
+/// steps. A step takes at most 64 fresh numbers, and there have to be numbers for all. By a table that descends no rule matches any more where the limit
+/// is at least the weight of the shader.
 pub fn rewrite_all<L: Ledger>(
     alloc: Global,
     work: &mut Work,
@@ -132,6 +133,7 @@ pub fn rewrite_all<L: Ledger>(
     ensures same { Same work.old.shader work.new.shader }
     ensures fits { Fits work.new table.now.rules }
     ensures falls { is_descending table.now ≡ true → IfOk result (λ n. weight_of (op_weight table.now) work.new.shader + n ≤ weight_of (op_weight table.now) work.old.shader) }
+    ensures ends { is_descending table.now ≡ true → weight_of (op_weight table.now) work.old.shader ≤ limit → IfOk result (λ n. is_settled options.now table.now.rules work.new.shader ≡ true) }
 {
     work.keeps_shape();
     table.rules_hold();

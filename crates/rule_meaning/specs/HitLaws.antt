@@ -10,6 +10,7 @@ use Rattle.nir_ops.specs.declared.op.Op.{Op}
 use Rattle.nir_ops.specs.declared.op.Op.TheVariants.{Mov}
 use Rattle.nir_ops.specs.declared.width.Width.{Width}
 use Rattle.op_eval.specs.Calls.{same_width}
+use Rattle.nir_ir.specs.Definitions.{instr_defining}
 use Rattle.nir_ir.specs.declared.ids.ValueId.{ValueId}
 use Rattle.nir_ir.specs.declared.instr.Instr.{Instr}
 use Rattle.nir_ir.specs.declared.instr.Instr.TheVariants.{Alu}
@@ -125,6 +126,29 @@ put_with s rule formed variant value binds found widths is =
       subst (λ w. ArePut rule variant s value binds (root_at s rule value binds w).instrs) same says.news,
     )
 
+-- ---- what matches weighs
+
+module _ (s : Shader) (shaped : IsShaped s) (rule : Rule) (formed : IsFormed rule) (variant : ℕ) (value : ValueId) (binds : List Bind) (found : match_of rule variant s.body value ≡ Some binds) where
+  -- the instruction whose value is matched
+  root_of_match : Instr
+  root_of_match = let root = (matched s shaped rule formed variant value binds found).root in Alu root.instr.id root.op root.instr.kind root.srcs
+
+  root_is : instr_defining value s.body ≡ Some root_of_match
+  root_is = (matched s shaped rule formed variant value binds found).root.instr.is
+
+  root_is_heavy : (weight : Op → ℕ) → instr_weight weight root_of_match ≡ root_weight weight rule.search
+  root_is_heavy weight =
+      let walk = walk_of s rule variant value binds found in
+      root_weighs_as weight s value root_of_match rule.search variant (root_view s.body value) _ walk.bound refl root_is formed.application walk.matched
+
+  -- by a rule that descends it weighs something, and so does its shader
+  pub match_weighs : (weight : Op → ℕ) → descends weight rule ≡ true → 1 ≤ weight_of weight s
+  match_weighs weight down =
+      let without = weight_placed weight s value [] root_of_match s.next_value shaped root_is in
+      let heavy = root_is_heavy weight in
+      let less : terms_weight weight rule.replace < root_weight weight rule.search = ltb-true (terms_weight weight rule.replace) (root_weight weight rule.search) down in
+      omega (arith, without, heavy, less)
+
 -- ---- what instructions that are put keep
 
 module _ (s : Shader) (shaped : IsShaped s) (valid : Valid s) (rule : Rule) (formed : IsFormed rule) (variant : ℕ) (value : ValueId) (binds : List Bind) (found : match_of rule variant s.body value ≡ Some binds)
@@ -148,12 +172,8 @@ module _ (s : Shader) (shaped : IsShaped s) (valid : Valid s) (rule : Rule) (for
   -- they weigh less where the rule descends
   pub news_fall : (weight : Op → ℕ) → weight Mov ≡ 0 → descends weight rule ≡ true → weight_of weight (replaced_by s value news) + 1 ≤ weight_of weight s
   news_fall weight mov down =
-      let root = (matched s shaped rule formed variant value binds found).root in
-      let old : Instr = Alu root.instr.id root.op root.instr.kind root.srcs in
-      let walk = walk_of s rule variant value binds found in
-      let changed = weight_placed weight s value news old (next_behind s news) shaped root.instr.is in
-      let heavy : instr_weight weight old ≡ root_weight weight rule.search =
-      root_weighs_as weight s value old rule.search variant (root_view s.body value) _ walk.bound refl root.instr.is formed.application walk.matched in
+      let changed = weight_placed weight s value news (root_of_match s shaped rule formed variant value binds found) (next_behind s news) shaped (root_is s shaped rule formed variant value binds found) in
+      let heavy = root_is_heavy s shaped rule formed variant value binds found weight in
       let light = are.light weight mov in
       let less : terms_weight weight rule.replace < root_weight weight rule.search = ltb-true (terms_weight weight rule.replace) (root_weight weight rule.search) down in
       omega (arith, changed, heavy, light, less)

@@ -1,5 +1,8 @@
 use Rattle.std.proofs.Common.{◌≡◌, ◌≤◌, true, inr, arith, rules}
+use Rattle.rule_term.specs.Table.{op_weight}
 use Rattle.nir_search.specs.Steps.{is_settled}
+use Rattle.nir_search.specs.Weight.{weight_of}
+use Rattle.rule_meaning.specs.SettledLaws.{settled_within}
 use Rattle.rewrite_pass.specs.RewritingLaws.{advances_then, rewrites_keep, rewrites_then}
 use Rattle.rewrite_pass.proofs.RoundsLemmas.{limit_or}
 use Rattle.rewrite_pass.proofs.rounds.rewrite_all.Goals as goal
@@ -39,6 +42,18 @@ returns-then-count-eq0-clause-settled g c =
     let zero : c.in_ok-count.count ≡ 0 = search rules in
     limit_or (is_settled c.args.options.now c.args.table.now.rules c.one_pass.new.work.shader ≡ true) c.loop-pass.done c.args.limit c.loop-pass.invariant.few (c.in_ok-count.ensures.settled zero)
 
+pub returns-then-count-eq0-clause-ends : goal.returns-then-count-eq0-clause-ends
+returns-then-count-eq0-clause-ends g c = λ down enough.
+    let l = c.loop-pass in
+    let zero : c.in_ok-count.count ≡ 0 = search rules in
+    let keeps = rewrites_keep c.args.options.now c.args.table.now.rules c.args.work.now.shader c.one_pass.new.work.shader c.args.journal.now c.one_pass.new.journal c.rules_hold.ensures.formed
+    c.rules_hold.ensures.hold c.keeps_shape.ensures.shaped c.keeps_shape.ensures.valid (returns-then-count-eq0-clause-steps g c) in
+    let advances = advances_then c.args.options.now c.args.table.now c.args.work.now.shader l.work.shader c.one_pass.new.work.shader c.args.journal.now l.journal c.one_pass.new.journal l.done
+    c.in_ok-count.count l.invariant.steps c.in_ok-count.ensures.done in
+    let falls = advances.falls down in
+    settled_within c.args.options.now c.args.table.now c.one_pass.new.work.shader keeps.shaped c.rules_hold.ensures.formed down (weight_of (op_weight c.args.table.now) c.args.work.now.shader)
+    l.done c.args.limit (returns-then-count-eq0-clause-settled g c) (omega (arith, falls, zero)) enough
+
 pub loop-pass-preserved : goal.loop-pass-preserved
 loop-pass-preserved g c =
     let l = c.loop-pass in
@@ -67,3 +82,11 @@ returns-clause-settled g c =
     let few : c.loop-pass.done ≤ c.args.limit = c.loop-pass.invariant.few in
     let many = c.loop-pass.invariant.many in
     inr (omega (arith, few, many, c.loop-pass-test.false))
+
+pub returns-clause-ends : goal.returns-clause-ends
+returns-clause-ends g c = λ down enough.
+    let l = c.loop-pass in
+    let keeps = rewrites_keep c.args.options.now c.args.table.now.rules c.args.work.now.shader l.work.shader c.args.journal.now l.journal c.rules_hold.ensures.formed
+    c.rules_hold.ensures.hold c.keeps_shape.ensures.shaped c.keeps_shape.ensures.valid l.invariant.steps.steps in
+    settled_within c.args.options.now c.args.table.now l.work.shader keeps.shaped c.rules_hold.ensures.formed down (weight_of (op_weight c.args.table.now) c.args.work.now.shader)
+    l.done c.args.limit (returns-clause-settled g c) (l.invariant.steps.falls down) enough
