@@ -3,6 +3,8 @@
 #![tactic(auto)]
 
 #[cfg(test)]
+mod clause_logs;
+#[cfg(test)]
 mod derivation_rows;
 #[cfg(test)]
 mod derivations;
