@@ -25,7 +25,7 @@ pub enum DeriveFault {
 
 /// Why a step does not apply.
 #[derive(Clone, Copy, Debug, PartialEq, Eq)]
-pub(crate) enum StepFault {
+pub enum StepFault {
     /// No law has the number.
     NoLaw,
     /// The path leads to no part of the term.

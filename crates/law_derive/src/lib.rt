@@ -29,7 +29,7 @@ mod table;
 mod terms;
 
 pub use check::check_derivation;
-pub use fault::DeriveFault;
+pub use fault::{DeriveFault, StepFault};
 pub use law::{Law, LawNode};
 pub use node::{Kind, Node};
 pub use table::laws;

@@ -9,13 +9,14 @@ use Rattle.rule_term.specs.Terms.{Terms}
 use Rattle.rule_read.specs.Says.{rule_says}
 use Rattle.rule_spelling.specs.Files.{Binding, Step, Apply, Calc}
 use Rattle.law_derive.specs.declared.fault.DeriveFault.{DeriveFault}
+use Rattle.law_derive.specs.declared.fault.StepFault.TheVariants.{NoMatch, CondMissing}
 use Rattle.law_derive.specs.declared.node.Kind.{Kind}
 use Rattle.law_derive.specs.declared.node.Kind.TheVariants.{App, Var, Lit}
 use Rattle.law_derive.specs.declared.node.Node.{Node}
 use Rattle.law_derive.specs.LawTable.{Law}
 use Rattle.law_derive.specs.Matching.{Filling, filled, found, match_side}
 use Rattle.law_derive.specs.Nodes.{first_term, place_at}
-use Rattle.law_derive.specs.Derivations.{Setting, StepFault, NoMatch, CondMissing, among, are_filled, at_path, bound, bound_letter, bound_others, by_calc, by_law, calculated, complete, cond_met, derive_from, derived_on, derivation_fault, expr_nodes, from_at, from_side, has_letter, is_truth, kind_meets, law_numbered, law_sizes, law_step, letter_named, letter_size, matched, matches_at, met, put_at, read_at, size_of_binding, size_of_expr, size_read, step_made, term_meets, to_at, with_letter}
+use Rattle.law_derive.specs.Derivations.{Setting, StepFault, among, are_filled, at_path, bound, bound_letter, bound_others, by_calc, by_law, calculated, complete, cond_met, derive_from, derived_on, derivation_fault, expr_nodes, from_at, from_side, has_letter, is_truth, kind_meets, law_numbered, law_sizes, law_step, letter_named, letter_size, matched, matches_at, met, put_at, read_at, size_of_binding, size_of_expr, size_read, step_made, term_meets, to_at, with_letter}
 use Rattle.rule_check.specs.Accepted.{bare}
 
 -- a rule without its options

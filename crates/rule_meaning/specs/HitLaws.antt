@@ -130,7 +130,7 @@ put_with s rule formed variant value binds found widths is =
 
 module _ (s : Shader) (shaped : IsShaped s) (rule : Rule) (formed : IsFormed rule) (variant : ℕ) (value : ValueId) (binds : List Bind) (found : match_of rule variant s.body value ≡ Some binds) where
   -- the instruction whose value is matched
-  root_of_match : Instr
+  abbrev root_of_match : Instr
   root_of_match = let root = (matched s shaped rule formed variant value binds found).root in Alu root.instr.id root.op root.instr.kind root.srcs
 
   root_is : instr_defining value s.body ≡ Some root_of_match
