@@ -6,7 +6,7 @@ use std::alloc::Global;
 use std::test::Fail;
 
 /// The clauses of `a ^ a` and 0 at one bit: they differ.
-static XOR: [&[i32]; 10] = [
+const XOR: &[&[i32]] = &[
     &[1],
     &[-3, 2, 2],
     &[-3, -2, -2],
@@ -20,7 +20,7 @@ static XOR: [&[i32]; 10] = [
 ];
 
 /// The clauses of `a & a` and `a` at one bit: they differ.
-static AND: [&[i32]; 9] = [
+const AND: &[&[i32]] = &[
     &[1],
     &[-3, 2],
     &[-3, 2],
@@ -33,47 +33,47 @@ static AND: [&[i32]; 9] = [
 ];
 
 /// Two variables of which each of the four pairs of values is excluded.
-static FOUR: [&[i32]; 4] = [&[1, 2], &[1, -2], &[-1, 2], &[-1, -2]];
+const FOUR: &[&[i32]] = &[&[1, 2], &[1, -2], &[-1, 2], &[-1, -2]];
 
 /// Clauses that can all be true.
-static OPEN: [&[i32]; 2] = [&[1, 2], &[-1, 3]];
+const OPEN: &[&[i32]] = &[&[1, 2], &[-1, 3]];
 
 /// Clauses, a log as a rule file has it, and what is wrong with it.
 static LOGS: [(&[&[i32]], &str, Option<LogFault>); 24] = [
-    (&XOR, "([], [1, 10, 6, 2, 3])", None),
-    (&XOR, "([], [2, 1, 10, 6, 2, 3])", Some(LogFault::NotUnit(0))),
-    (&XOR, "([], [11, 1])", Some(LogFault::BadHint(0))),
-    (&AND, "([3], [9, 5, 4]), ([], [10, 2, 9, 6])", None),
-    (&AND, "([3], [9, 5]), ([], [10, 2, 9, 6])", Some(LogFault::NotUnit(0))),
-    (&AND, "", Some(LogFault::NoEmpty)),
-    (&FOUR, "([1], [1, 2]), ([], [5, 3, 4])", None),
+    (XOR, "([], [1, 10, 6, 2, 3])", None),
+    (XOR, "([], [2, 1, 10, 6, 2, 3])", Some(LogFault::NotUnit(0))),
+    (XOR, "([], [11, 1])", Some(LogFault::BadHint(0))),
+    (AND, "([3], [9, 5, 4]), ([], [10, 2, 9, 6])", None),
+    (AND, "([3], [9, 5]), ([], [10, 2, 9, 6])", Some(LogFault::NotUnit(0))),
+    (AND, "", Some(LogFault::NoEmpty)),
+    (FOUR, "([1], [1, 2]), ([], [5, 3, 4])", None),
     // The empty clause may come before the end, and twice.
-    (&FOUR, "([1], [1, 2]), ([], [5, 3, 4]), ([2], [6]), ([], [6])", None),
+    (FOUR, "([1], [1, 2]), ([], [5, 3, 4]), ([2], [6]), ([], [6])", None),
     // A hint behind the end of a step is not taken.
-    (&FOUR, "([1], [1, 2, 0, 99]), ([], [5, 3, 4])", None),
+    (FOUR, "([1], [1, 2, 0, 99]), ([], [5, 3, 4])", None),
     // Hints are taken in order, and each before the next is looked at.
-    (&FOUR, "([1], [0, 1, 2])", Some(LogFault::BadHint(0))),
-    (&FOUR, "([1], [1, 0])", Some(LogFault::BadHint(0))),
-    (&FOUR, "([], [1, 0])", Some(LogFault::NotUnit(0))),
+    (FOUR, "([1], [0, 1, 2])", Some(LogFault::BadHint(0))),
+    (FOUR, "([1], [1, 0])", Some(LogFault::BadHint(0))),
+    (FOUR, "([], [1, 0])", Some(LogFault::NotUnit(0))),
     // A step names neither itself nor a later one.
-    (&FOUR, "([1], [5])", Some(LogFault::BadHint(0))),
-    (&FOUR, "([1], [1, 2]), ([2], [6])", Some(LogFault::BadHint(1))),
-    (&FOUR, "([1], [1, 2]), ([], [5, 7]), ([], [5, 3, 4])", Some(LogFault::BadHint(1))),
+    (FOUR, "([1], [5])", Some(LogFault::BadHint(0))),
+    (FOUR, "([1], [1, 2]), ([2], [6])", Some(LogFault::BadHint(1))),
+    (FOUR, "([1], [1, 2]), ([], [5, 7]), ([], [5, 3, 4])", Some(LogFault::BadHint(1))),
     // Two literals that are not false.
-    (&FOUR, "([1], [1, 2]), ([], [1])", Some(LogFault::NotUnit(1))),
+    (FOUR, "([1], [1, 2]), ([], [1])", Some(LogFault::NotUnit(1))),
     // A literal that is true already is the one that is left.
-    (&FOUR, "([1], [2, 1, 2]), ([], [5, 3, 3, 4])", None),
+    (FOUR, "([1], [2, 1, 2]), ([], [5, 3, 3, 4])", None),
     // What a step assumed is forgotten behind it.
-    (&FOUR, "([1], [1, 2]), ([], [3, 4])", Some(LogFault::NotUnit(1))),
-    (&FOUR, "([1, 2, 3], [1]), ([3], [1])", Some(LogFault::NotUnit(1))),
+    (FOUR, "([1], [1, 2]), ([], [3, 4])", Some(LogFault::NotUnit(1))),
+    (FOUR, "([1, 2, 3], [1]), ([3], [1])", Some(LogFault::NotUnit(1))),
     // A literal and its negation.
-    (&FOUR, "([1, -1], [1])", Some(LogFault::NotUnit(0))),
-    (&FOUR, "([3, 4, -3], [0])", Some(LogFault::NotUnit(0))),
+    (FOUR, "([1, -1], [1])", Some(LogFault::NotUnit(0))),
+    (FOUR, "([3, 4, -3], [0])", Some(LogFault::NotUnit(0))),
     // A literal twice is one literal.
-    (&FOUR, "([1, 1], [1, 2]), ([], [5, 3, 4])", None),
+    (FOUR, "([1, 1], [1, 2]), ([], [5, 3, 4])", None),
     // The greatest and the least literal.
-    (&FOUR, "([1, 5000000, -4999999], [1, 2]), ([1], [1, 2]), ([], [6, 3, 4])", None),
-    (&OPEN, "([2, 3], [1, 2])", Some(LogFault::NoEmpty)),
+    (FOUR, "([1, 5000000, -4999999], [1, 2]), ([1], [1, 2]), ([], [6, 3, 4])", None),
+    (OPEN, "([2, 3], [1, 2])", Some(LogFault::NoEmpty)),
 ];
 
 fn clauses_of(alloc: Global, list: &[&[i32]]) -> Result<Clauses, Fail> {
