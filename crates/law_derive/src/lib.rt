@@ -1,7 +1,6 @@
 //! Derivations: steps by laws of the opcodes, and calculations, that lead from one side of a rule to the other. Here stand the table of
-//! the laws, what each step makes of a term or why it does not apply, and that a derivation in which nothing is wrong shows that both
-//! sides are equal; and the parts of the code that checks one: the sides of laws at a size, matching them, filling them, and where parts of
-//! terms stand. The sizes of expressions, calculations and whole steps are to come.
+//! the laws, what each step makes of a term or why it does not apply, the check of a derivation, and that one in which nothing is wrong
+//! shows that both sides are equal.
 #![tactic(auto)]
 
 ghost use Rattle.law_derive.specs.LawsHold.{LawsHold};
