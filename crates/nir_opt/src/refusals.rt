@@ -50,7 +50,8 @@ fn push_step(out: &mut Vec<u8>, step: u64, what: &[u8]) -> Result<(), OutOfMemor
 {
     push(out, b"derivation step ")?;
     push_number(out, step)?;
-    push(out, what)
+    push(out, what)?;
+    Ok(())
 }
 
 /// Adds why a derivation shows nothing.

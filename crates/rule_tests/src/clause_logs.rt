@@ -44,11 +44,19 @@ static LOGS: [(&[&[i32]], &str, Option<LogFault>); 24] = [
     (XOR, "([], [2, 1, 10, 6, 2, 3])", Some(LogFault::NotUnit(0))),
     (XOR, "([], [11, 1])", Some(LogFault::BadHint(0))),
     (AND, "([3], [9, 5, 4]), ([], [10, 2, 9, 6])", None),
-    (AND, "([3], [9, 5]), ([], [10, 2, 9, 6])", Some(LogFault::NotUnit(0))),
+    (
+        AND,
+        "([3], [9, 5]), ([], [10, 2, 9, 6])",
+        Some(LogFault::NotUnit(0)),
+    ),
     (AND, "", Some(LogFault::NoEmpty)),
     (FOUR, "([1], [1, 2]), ([], [5, 3, 4])", None),
     // The empty clause may come before the end, and twice.
-    (FOUR, "([1], [1, 2]), ([], [5, 3, 4]), ([2], [6]), ([], [6])", None),
+    (
+        FOUR,
+        "([1], [1, 2]), ([], [5, 3, 4]), ([2], [6]), ([], [6])",
+        None,
+    ),
     // A hint behind the end of a step is not taken.
     (FOUR, "([1], [1, 2, 0, 99]), ([], [5, 3, 4])", None),
     // Hints are taken in order, and each before the next is looked at.
@@ -57,22 +65,42 @@ static LOGS: [(&[&[i32]], &str, Option<LogFault>); 24] = [
     (FOUR, "([], [1, 0])", Some(LogFault::NotUnit(0))),
     // A step names neither itself nor a later one.
     (FOUR, "([1], [5])", Some(LogFault::BadHint(0))),
-    (FOUR, "([1], [1, 2]), ([2], [6])", Some(LogFault::BadHint(1))),
-    (FOUR, "([1], [1, 2]), ([], [5, 7]), ([], [5, 3, 4])", Some(LogFault::BadHint(1))),
+    (
+        FOUR,
+        "([1], [1, 2]), ([2], [6])",
+        Some(LogFault::BadHint(1)),
+    ),
+    (
+        FOUR,
+        "([1], [1, 2]), ([], [5, 7]), ([], [5, 3, 4])",
+        Some(LogFault::BadHint(1)),
+    ),
     // Two literals that are not false.
     (FOUR, "([1], [1, 2]), ([], [1])", Some(LogFault::NotUnit(1))),
     // A literal that is true already is the one that is left.
     (FOUR, "([1], [2, 1, 2]), ([], [5, 3, 3, 4])", None),
     // What a step assumed is forgotten behind it.
-    (FOUR, "([1], [1, 2]), ([], [3, 4])", Some(LogFault::NotUnit(1))),
-    (FOUR, "([1, 2, 3], [1]), ([3], [1])", Some(LogFault::NotUnit(1))),
+    (
+        FOUR,
+        "([1], [1, 2]), ([], [3, 4])",
+        Some(LogFault::NotUnit(1)),
+    ),
+    (
+        FOUR,
+        "([1, 2, 3], [1]), ([3], [1])",
+        Some(LogFault::NotUnit(1)),
+    ),
     // A literal and its negation.
     (FOUR, "([1, -1], [1])", Some(LogFault::NotUnit(0))),
     (FOUR, "([3, 4, -3], [0])", Some(LogFault::NotUnit(0))),
     // A literal twice is one literal.
     (FOUR, "([1, 1], [1, 2]), ([], [5, 3, 4])", None),
     // The greatest and the least literal.
-    (FOUR, "([1, 5000000, -4999999], [1, 2]), ([1], [1, 2]), ([], [6, 3, 4])", None),
+    (
+        FOUR,
+        "([1, 5000000, -4999999], [1, 2]), ([1], [1, 2]), ([], [6, 3, 4])",
+        None,
+    ),
     (OPEN, "([2, 3], [1, 2])", Some(LogFault::NoEmpty)),
 ];
 
