@@ -10,9 +10,12 @@ use Rattle.term_read.specs.declared.fault.RuleFault.{RuleFault}
 use Rattle.term_read.specs.declared.fault.RuleFault.TheVariants as rule
 use Rattle.rule_check.specs.declared.refused.Refused.{Refused}
 use Rattle.rule_check.specs.declared.refused.RuleCause.{RuleCause}
+use Rattle.nir_ops.specs.Opcodes.{name_of}
+use Rattle.clause_check.specs.declared.fault.LogFault.{LogFault}
+use Rattle.clause_check.specs.declared.fault.LogFault.TheVariants as log
 use Rattle.law_derive.specs.declared.fault.DeriveFault.{DeriveFault}
 use Rattle.law_derive.specs.declared.fault.DeriveFault.TheVariants as derive
-use Rattle.rule_check.specs.declared.refused.RuleCause.TheVariants.{Size, NoEvidence, Cases, TooManyCases, Derive, NotBuilt}
+use Rattle.rule_check.specs.declared.refused.RuleCause.TheVariants.{Size, NoEvidence, Cases, TooManyCases, NoCircuit, Log, Derive}
 use Rattle.nir_mean.specs.Faults.{fault_place}
 use Rattle.nir_mean.specs.ShaderLines.{invalid_line, syntax_line, which_text}
 use Rattle.nir_opt.specs.declared.status.Status.{Status}
@@ -103,25 +106,33 @@ size_text (size.Ambiguous node) = codes "node " ++ decimal node ++ codes " has n
 size_text size.TooMany = codes "too many sizes"
 size_text size.OutOfMemory = []
 
--- a step of a derivation, with what is wrong with it
-abbrev pub step_text : ℕ → List ℕ → List ℕ
-step_text step what = codes "derivation step " ++ decimal step ++ what
+-- a step behind these words, with what is wrong with it
+abbrev pub step_text : List ℕ → ℕ → List ℕ → List ℕ
+step_text front step what = front ++ decimal step ++ what
 
 abbrev pub derive_text : DeriveFault → List ℕ
-derive_text (derive.NoLaw step) = step_text step (codes ": no law")
-derive_text (derive.BadPath step) = step_text step (codes ": bad path")
-derive_text (derive.NoMatch step) = step_text step (codes ": no match")
-derive_text (derive.CondMissing step) = step_text step (codes ": condition missing")
+derive_text (derive.NoLaw step) = step_text (codes "derivation step ") step (codes ": no law")
+derive_text (derive.BadPath step) = step_text (codes "derivation step ") step (codes ": bad path")
+derive_text (derive.NoMatch step) = step_text (codes "derivation step ") step (codes ": no match")
+derive_text (derive.CondMissing step) = step_text (codes "derivation step ") step (codes ": condition missing")
 derive_text derive.WrongEnd = codes "derivation ends elsewhere"
 derive_text derive.OutOfMemory = []
+
+abbrev pub log_text : LogFault → List ℕ
+log_text log.TooLong = codes "log too long"
+log_text (log.BadHint step) = step_text (codes "log step ") step (codes ": bad hint")
+log_text (log.NotUnit step) = step_text (codes "log step ") step (codes ": not a unit")
+log_text log.NoEmpty = codes "log has no empty clause"
+log_text log.OutOfMemory = []
 
 abbrev pub cause_text : RuleCause → List ℕ
 cause_text (Size fault) = size_text fault
 cause_text NoEvidence = codes "no evidence"
 cause_text (Cases values) = codes "cases differ" ++ at_values values
 cause_text TooManyCases = codes "too many cases"
+cause_text (NoCircuit op) = codes "no circuit for " ++ name_of op
+cause_text (Log fault) = log_text fault
 cause_text (Derive fault) = derive_text fault
-cause_text NotBuilt = codes "not built"
 
 abbrev pub typing_text : Option ℕ → List ℕ
 typing_text None = []

@@ -1,10 +1,13 @@
 //! The lines on rules that are not accepted.
 
 ghost use Rattle.std.specs.Prelude.{◌≡◌, ◌++◌, OnOk, IfOk, codes, decimal};
-ghost use Rattle.nir_opt.specs.Answers.{at_values, cause_text, derive_text, refusal_line, refusal_text, size_text, skipped_text, step_text, typing_text};
+ghost use Rattle.nir_ops.specs.Opcodes.{name_of};
+ghost use Rattle.nir_opt.specs.Answers.{at_values, cause_text, derive_text, log_text, refusal_line, refusal_text, size_text, skipped_text, step_text, typing_text};
 
+use clause_check::LogFault;
 use law_derive::DeriveFault;
 use nir_host::{Bytes, OutOfMemory};
+use nir_ops::{Op, name};
 use rule_check::{Refused, RuleCause};
 use size_infer::SizeFault;
 use std::alloc::Global;
@@ -44,11 +47,11 @@ fn push_size(out: &mut Vec<u8>, fault: SizeFault) -> Result<(), OutOfMemory>
     }
 }
 
-/// Adds a step of a derivation, with what is wrong with it.
-fn push_step(out: &mut Vec<u8>, step: u64, what: &[u8]) -> Result<(), OutOfMemory>
-    ensures { OnOk result (out.new.items ≡ out.old.items ++ step_text step what.now) }
+/// Adds a step behind these words, with what is wrong with it.
+fn push_step(out: &mut Vec<u8>, front: &[u8], step: u64, what: &[u8]) -> Result<(), OutOfMemory>
+    ensures { OnOk result (out.new.items ≡ out.old.items ++ step_text front.now step what.now) }
 {
-    push(out, b"derivation step ")?;
+    push(out, front)?;
     push_number(out, step)?;
     push(out, what)?;
     Ok(())
@@ -59,13 +62,39 @@ fn push_derive(out: &mut Vec<u8>, fault: DeriveFault) -> Result<(), OutOfMemory>
     ensures { OnOk result (out.new.items ≡ out.old.items ++ derive_text fault) }
 {
     match fault {
-        DeriveFault::NoLaw(step) => push_step(out, step, b": no law"),
-        DeriveFault::BadPath(step) => push_step(out, step, b": bad path"),
-        DeriveFault::NoMatch(step) => push_step(out, step, b": no match"),
-        DeriveFault::CondMissing(step) => push_step(out, step, b": condition missing"),
+        DeriveFault::NoLaw(step) => push_step(out, b"derivation step ", step, b": no law"),
+        DeriveFault::BadPath(step) => push_step(out, b"derivation step ", step, b": bad path"),
+        DeriveFault::NoMatch(step) => push_step(out, b"derivation step ", step, b": no match"),
+        DeriveFault::CondMissing(step) => push_step(
+            out,
+            b"derivation step ",
+            step,
+            b": condition missing",
+        ),
         DeriveFault::WrongEnd => push(out, b"derivation ends elsewhere"),
         DeriveFault::OutOfMemory => push(out, b""),
     }
+}
+
+/// Adds why a log shows nothing.
+fn push_log(out: &mut Vec<u8>, fault: LogFault) -> Result<(), OutOfMemory>
+    ensures { OnOk result (out.new.items ≡ out.old.items ++ log_text fault) }
+{
+    match fault {
+        LogFault::TooLong => push(out, b"log too long"),
+        LogFault::BadHint(step) => push_step(out, b"log step ", step, b": bad hint"),
+        LogFault::NotUnit(step) => push_step(out, b"log step ", step, b": not a unit"),
+        LogFault::NoEmpty => push(out, b"log has no empty clause"),
+        LogFault::OutOfMemory => push(out, b""),
+    }
+}
+
+/// Adds an opcode that has no circuit.
+fn push_op(out: &mut Vec<u8>, op: Op) -> Result<(), OutOfMemory>
+    ensures { OnOk result (out.new.items ≡ out.old.items ++ codes "no circuit for " ++ name_of op) }
+{
+    push(out, b"no circuit for ")?;
+    push(out, name(op).as_bytes())
 }
 
 /// Adds why a rule is not accepted.
@@ -80,8 +109,9 @@ fn push_cause(out: &mut Vec<u8>, cause: &RuleCause) -> Result<(), OutOfMemory>
             push_at_values(out, values.as_slice())
         }
         RuleCause::TooManyCases => push(out, b"too many cases"),
+        RuleCause::NoCircuit(op) => push_op(out, *op),
+        RuleCause::Log(fault) => push_log(out, *fault),
         RuleCause::Derive(fault) => push_derive(out, *fault),
-        RuleCause::NotBuilt => push(out, b"not built"),
     }
 }
 

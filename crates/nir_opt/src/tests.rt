@@ -4,6 +4,7 @@
 mod check;
 mod derived;
 mod eval;
+mod logged;
 mod loops;
 mod refusals;
 mod rewriting;

@@ -1,21 +1,26 @@
 -- The typings of a rule, one by one, and what is wrong at each.
-use Rattle.std.proofs.Common.{◌≡◌, ◌+◌, ◌<◌, ℕ, true, Option, Some, None, List, length, drop, get_or, sym, ◌∙◌, ap, subst}
+use Rattle.std.proofs.Common.{◌≡◌, ◌+◌, ◌<◌, ℕ, true, Option, Some, None, List, [], ◌∷◌, map, length, drop, get_or, refl, sym, ◌∙◌, ap, subst}
 use Rattle.std.specs.List.{All}
 use Rattle.std.specs.Option.{option_map, option_or}
 use Rattle.std.proofs.lemmas.List.{at_drop_more}
+use Rattle.nir_ops.specs.declared.op.Op.{Op}
 use Rattle.nir_ops.specs.declared.width.Width.{Width}
+use Rattle.clause_check.specs.declared.clause.LogStep.{LogStep}
+use Rattle.clause_check.specs.Logs.{Clause, log_fault}
+use Rattle.circuit_laws.specs.RuleClauses.{first_without, rule_clauses}
 use Rattle.rule_term.specs.Rule.{Rule}
 use Rattle.rule_term.specs.Typings.{is_typing, typings}
 use Rattle.rule_term.specs.declared.typing.Typing.{Typing}
 use Rattle.size_infer.specs.Grown.{all_widths_of}
 use Rattle.rule_spelling.specs.Files.{Line, Proof}
 use Rattle.rule_read.specs.declared.entry.Entry.{Entry}
-use Rattle.rule_read.specs.Says.{entry_says}
+use Rattle.rule_read.specs.Says.{entry_says, log_step_says}
 use Rattle.size_infer.specs.SizeFaults.{size_fault}
 use Rattle.size_infer.specs.declared.fault.SizeFault.{SizeFault}
 use Rattle.rule_check.specs.declared.refused.RuleCause.{RuleCause}
+use Rattle.rule_check.specs.declared.refused.RuleCause.TheVariants as cause
 use Rattle.rule_check.specs.declared.refused.Refused.{Refused}
-use Rattle.rule_check.specs.Accepted.{cause_at, Claim, claim_of, refusal_of, refusal_on, refused_among, refused_at, refused_by_size, refused_for}
+use Rattle.rule_check.specs.Accepted.{cause_at, cause_of_log, checked_step, fault_of_log, Claim, claim_of, refusal_of, refusal_on, refused_among, refused_at, refused_by_size, refused_for}
 use Rattle.rule_check.specs.SaidLaws.{refusal_as_said}
 
 -- the typing at a place of a list
@@ -64,3 +69,24 @@ pub told_by_evidence : (entry : Entry) (found : Option Refused) (list : List (Li
 unfolding refusal_on
 told_by_evidence entry found list is whole none =
     is ∙ ap (refused_among (claim_of entry) 0) whole ∙ sym (ap (refused_for (claim_of entry)) none) ∙ refusal_as_said entry
+
+-- ---- logs
+
+-- a log is checked as it is said
+log_as_said : (log : List LogStep) → map checked_step (map log_step_says log) ≡ log
+log_as_said [] = refl
+log_as_said (step ∷ log) = ap (λ rest. step ∷ rest) (log_as_said log)
+
+-- an opcode without a circuit is the cause, whatever the log holds
+pub log_without : (rule : Rule) (widths : List Width) (log : List LogStep) (op : Op) → first_without rule ≡ Some op
+    → cause_of_log rule widths (map log_step_says log) ≡ Some (cause.NoCircuit op)
+log_without rule widths log op lacks =
+    ap (λ found. option_or (option_map cause.NoCircuit found) (option_map cause.Log (fault_of_log rule widths (map log_step_says log)))) lacks
+
+-- and where there is none, the fault of the log over the clauses of the rule
+pub log_over : (rule : Rule) (widths : List Width) (log : List LogStep) (clauses : List Clause) → first_without rule ≡ None → clauses ≡ rule_clauses rule widths
+    → cause_of_log rule widths (map log_step_says log) ≡ option_map cause.Log (log_fault clauses log)
+log_over rule widths log clauses none are =
+    ap (λ found. option_or (option_map cause.NoCircuit found) (option_map cause.Log (fault_of_log rule widths (map log_step_says log)))) none
+    ∙ ap (λ steps. option_map cause.Log (log_fault (rule_clauses rule widths) steps)) (log_as_said log)
+    ∙ ap (λ list. option_map cause.Log (log_fault list log)) (sym are)

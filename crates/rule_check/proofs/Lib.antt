@@ -2,4 +2,3 @@ pub mod EvidenceLemmas
 pub mod FileWeights
 pub mod Refusals
 pub mod Trials
-pub mod Walks

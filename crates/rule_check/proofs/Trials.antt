@@ -14,8 +14,10 @@ use Rattle.rule_term.specs.Rule.{Rule}
 use Rattle.rule_term.specs.Typings.{search_part, replace_part, is_typing}
 use Rattle.rule_term.specs.Holds.{values_of, are_met, are_words}
 use Rattle.rule_check.specs.declared.cases.Trial.TheVariants.{TooMany}
-use Rattle.rule_check.specs.Cases.{var_width, var_bits, free_bits, tuple, tuples, differs_at, first_difference, trial_answer, trial_of}
-use Rattle.rule_check.specs.CasesLaws.{length-var_bits, length-tuple, words_of_tuple}
+use Rattle.rule_check.specs.Cases.{tuple, tuples, differs_at, first_difference, trial_answer, trial_of}
+use Rattle.circuit_laws.specs.Variables.{var_width, var_bits, free_bits}
+use Rattle.rule_check.specs.CasesLaws.{length-tuple, words_of_tuple}
+use Rattle.circuit_laws.specs.VariableLaws.{length-var_bits}
 
 pub differs_unmet : (rule : Rule) (widths : List Width) (values : List ℕ) → are_met rule widths values ≡ false → differs_at rule widths values ≡ false
 unfolding differs_at

@@ -14,10 +14,14 @@ use Rattle.rule_term.specs.Weights.{initial_weight}
 use Rattle.size_infer.specs.SizeFaults.{size_fault}
 use Rattle.size_infer.specs.declared.fault.SizeFault.{SizeFault}
 use Rattle.rule_spelling.specs.Files as said
-use Rattle.rule_spelling.specs.Files.{Entry, Line, Proof, Step, WeightLine}
+use Rattle.rule_spelling.specs.Files.{Entry, Line, LogStep, Proof, Step, WeightLine}
 use Rattle.rule_read.specs.declared.entry.Entry as code
 use Rattle.rule_read.specs.Says.{entry_says, line_says}
 use Rattle.law_derive.specs.Derivations.{derivation_fault}
+use Rattle.clause_check.specs.declared.clause.LogStep as checked
+use Rattle.clause_check.specs.declared.fault.LogFault.{LogFault}
+use Rattle.clause_check.specs.Logs.{log_fault}
+use Rattle.circuit_laws.specs.RuleClauses.{first_without, rule_clauses}
 use Rattle.rule_check.specs.declared.cases.Trial.{Trial}
 use Rattle.rule_check.specs.declared.cases.Trial.TheVariants.{Equal, Differ, TooMany}
 use Rattle.rule_check.specs.declared.refused.RuleCause.{RuleCause}
@@ -65,12 +69,24 @@ cause_of_trial TooMany = Some cause.TooManyCases
 abbrev pub cause_of_derivation : Rule → List Width → List Step → Option RuleCause
 cause_of_derivation rule widths steps = option_map cause.Derive (derivation_fault (record { rule = rule; widths = widths }) steps)
 
--- what is wrong with the evidence at a typing, None where nothing is: logs are not checked yet
+-- a step of a log that is said, as it is checked
+abbrev pub checked_step : LogStep → checked.LogStep
+checked_step step = record { clause = step.clause; hints = step.hints }
+
+-- the fault of a log that begins with the clauses of the rule
+abbrev pub fault_of_log : Rule → List Width → List LogStep → Option LogFault
+fault_of_log rule widths log = log_fault (rule_clauses rule widths) (map checked_step log)
+
+-- what is wrong with a log at a typing: the first opcode without a circuit, and only where there is none, the fault of the log
+abbrev pub cause_of_log : Rule → List Width → List LogStep → Option RuleCause
+cause_of_log rule widths log = option_or (option_map cause.NoCircuit (first_without rule)) (option_map cause.Log (fault_of_log rule widths log))
+
+-- what is wrong with the evidence at a typing, None where nothing is
 abbrev pub cause_by : Rule → List Width → Option Proof → Option RuleCause
 cause_by rule widths None = Some cause.NoEvidence
 cause_by rule widths (Some said.Cases) = cause_of_trial (trial_of rule widths)
 cause_by rule widths (Some (said.Derive steps)) = cause_of_derivation rule widths steps
-cause_by rule widths (Some (said.Logged log)) = Some cause.NotBuilt
+cause_by rule widths (Some (said.Logged log)) = cause_of_log rule widths log
 
 unfoldable pub cause_at : Claim → ℕ → List Width → Option RuleCause
 cause_at claim number widths = cause_by claim.rule widths (chosen_line number claim.lines)

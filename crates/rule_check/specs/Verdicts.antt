@@ -15,6 +15,8 @@ use Rattle.rule_spelling.specs.Files as said
 use Rattle.rule_spelling.specs.Files.{Proof}
 use Rattle.law_derive.specs.declared.fault.DeriveFault.{DeriveFault}
 use Rattle.law_derive.specs.Derivations.{derivation_fault}
+use Rattle.clause_check.specs.declared.fault.LogFault.{LogFault}
+use Rattle.circuit_laws.specs.RuleClauses.{first_without}
 use Rattle.rule_read.specs.declared.entry.Entry.{Entry}
 use Rattle.rule_read.specs.Says.{entry_says}
 use Rattle.rule_check.specs.declared.refused.RuleCause.{RuleCause}
@@ -22,8 +24,8 @@ use Rattle.rule_check.specs.declared.refused.RuleCause.TheVariants as cause
 use Rattle.rule_check.specs.declared.refused.Refused.{Refused}
 use Rattle.rule_check.specs.declared.refused.CheckFault.{CheckFault}
 use Rattle.rule_check.specs.declared.refused.CheckFault.TheVariants as fault
-use Rattle.rule_check.specs.Accepted.{chosen_line, Claim, claim_of, refusal_of}
-use Rattle.rule_check.specs.Cases.{free_bits}
+use Rattle.rule_check.specs.Accepted.{chosen_line, Claim, claim_of, fault_of_log, refusal_of}
+use Rattle.circuit_laws.specs.Variables.{free_bits}
 
 -- both sides have one value where the variables have these values
 abbrev pub AreEqualAt : Rule → List Width → List ℕ → Type 0
@@ -55,19 +57,26 @@ IsDerivedWith rule widths wrong (Some said.Cases) = ⊥
 IsDerivedWith rule widths wrong (Some (said.Derive steps)) = derivation_fault (record { rule = rule; widths = widths }) steps ≡ Some wrong
 IsDerivedWith rule widths wrong (Some (said.Logged log)) = ⊥
 
--- it is not checked yet
-abbrev pub IsUnchecked : Option Proof → Type 0
-IsUnchecked None = ⊥
-IsUnchecked (Some said.Cases) = ⊥
-IsUnchecked (Some (said.Derive steps)) = ⊥
-IsUnchecked (Some (said.Logged log)) = Unit {0}
+-- it is a log
+abbrev pub IsLog : Option Proof → Type 0
+IsLog None = ⊥
+IsLog (Some said.Cases) = ⊥
+IsLog (Some (said.Derive steps)) = ⊥
+IsLog (Some (said.Logged log)) = Unit {0}
 
--- it goes through: all cases can be tried, or nothing is wrong with the derivation
+-- it is a log of a rule whose opcodes all have circuits, with this fault
+abbrev pub IsLoggedWith : Rule → List Width → LogFault → Option Proof → Type 0
+IsLoggedWith rule widths wrong None = ⊥
+IsLoggedWith rule widths wrong (Some said.Cases) = ⊥
+IsLoggedWith rule widths wrong (Some (said.Derive steps)) = ⊥
+IsLoggedWith rule widths wrong (Some (said.Logged log)) = (first_without rule ≡ None) × (fault_of_log rule widths log ≡ Some wrong)
+
+-- it goes through: all cases can be tried, nothing is wrong with the derivation, or each opcode has a circuit and nothing is wrong with the log
 abbrev pub GoesThrough : Rule → List Width → Option Proof → Type 0
 GoesThrough rule widths None = ⊥
 GoesThrough rule widths (Some said.Cases) = free_bits rule widths ≤ 16
 GoesThrough rule widths (Some (said.Derive steps)) = derivation_fault (record { rule = rule; widths = widths }) steps ≡ None
-GoesThrough rule widths (Some (said.Logged log)) = ⊥
+GoesThrough rule widths (Some (said.Logged log)) = (first_without rule ≡ None) × (fault_of_log rule widths log ≡ None)
 
 -- the evidence at a typing is good: it goes through, and the sides are equal
 pub record IsGood (rule : Rule) (widths : List Width) (evidence : Option Proof) : Type 0 where
@@ -80,8 +89,9 @@ IsBad rule widths evidence (cause.Size fault) = ⊥
 IsBad rule widths evidence cause.NoEvidence = evidence ≡ None
 IsBad rule widths evidence (cause.Cases values) = IsTrial evidence × (free_bits rule widths ≤ 16) × IsFirstDifference rule widths values
 IsBad rule widths evidence cause.TooManyCases = IsTrial evidence × (16 < free_bits rule widths)
+IsBad rule widths evidence (cause.NoCircuit op) = IsLog evidence × (first_without rule ≡ Some op)
+IsBad rule widths evidence (cause.Log wrong) = IsLoggedWith rule widths wrong evidence
 IsBad rule widths evidence (cause.Derive wrong) = IsDerivedWith rule widths wrong evidence
-IsBad rule widths evidence cause.NotBuilt = IsUnchecked evidence
 
 -- each typing before this one has good evidence
 abbrev pub AreGoodBefore : Claim → ℕ → Type 0
@@ -101,8 +111,9 @@ IsCause claim None (cause.Size fault) = IsSizeFault claim.rule fault
 IsCause claim None cause.NoEvidence = ⊥
 IsCause claim None (cause.Cases values) = ⊥
 IsCause claim None cause.TooManyCases = ⊥
+IsCause claim None (cause.NoCircuit op) = ⊥
+IsCause claim None (cause.Log wrong) = ⊥
 IsCause claim None (cause.Derive wrong) = ⊥
-IsCause claim None cause.NotBuilt = ⊥
 IsCause claim (Some number) cause = IsFirstBad claim number cause
 
 pub record IsRefusal (claim : Claim) (refused : Refused) : Type 0 where

@@ -1,5 +1,5 @@
 -- A verdict means what it is to mean.
-use Rattle.std.specs.Prelude.{◌≡◌, refl, ◌+◌, ◌*◌, ◌/◌, ◌%◌, ◌^◌, ◌<◌, ◌≤◌, ℕ, zero, suc, Bool, true, false, not, ◌&&◌, Option, Some, None, List, [], ◌∷◌, sum, length, nat_eq, nat_lt, slice_get, ◌⊎◌, cond}
+use Rattle.std.specs.Prelude.{◌≡◌, refl, ◌+◌, ◌*◌, ◌/◌, ◌%◌, ◌^◌, ◌<◌, ◌≤◌, ℕ, zero, suc, Bool, true, false, not, ◌&&◌, Option, Some, None, List, [], ◌∷◌, map, sum, length, nat_eq, nat_lt, slice_get, ◌⊎◌, cond}
 use Rattle.std.specs.List.{AllByRecursion}
 use Rattle.std.specs.Option.{option_map, option_or}
 use Rattle.std.specs.Cmp.Lexicographic.{pointwise, bytes_decides, slice_cmp}
@@ -21,17 +21,24 @@ use Rattle.size_infer.specs.SizeFaults.{size_fault}
 use Rattle.size_infer.specs.SizeFaultsLaws.{fault_means, none_means}
 use Rattle.size_infer.specs.declared.fault.SizeFault.{SizeFault}
 use Rattle.rule_spelling.specs.Files as said
-use Rattle.rule_spelling.specs.Files.{Proof, Step}
+use Rattle.rule_spelling.specs.Files.{LogStep, Proof, Step}
+use Rattle.nir_ops.specs.declared.op.Op.{Op}
 use Rattle.law_derive.specs.declared.fault.DeriveFault.{DeriveFault}
 use Rattle.law_derive.specs.Derivations.{derivation_fault}
 use Rattle.law_derive.specs.DerivationsLaws.{derivations_are_sound}
+use Rattle.clause_check.specs.declared.fault.LogFault.{LogFault}
+use Rattle.clause_check.specs.LogsLaws.{log_shows}
+use Rattle.circuit_laws.specs.RuleClauses.{first_without, rule_clauses}
+use Rattle.circuit_laws.specs.ClausesLaws.{clauses_show}
 use Rattle.rule_check.specs.declared.cases.Trial.TheVariants as trial
 use Rattle.rule_check.specs.declared.refused.RuleCause.{RuleCause}
 use Rattle.rule_check.specs.declared.refused.RuleCause.TheVariants as cause
 use Rattle.rule_check.specs.declared.refused.Refused.{Refused}
-use Rattle.rule_check.specs.Accepted.{cause_of_trial, cause_by, cause_at, chosen_line, Claim, claim_of, refused_at, refused_by_size, refused_among, refused_for, refusal_on}
-use Rattle.rule_check.specs.Cases.{trial_answer, trial_of, var_bits, free_bits, tuple, tuples, differs_at, first_difference}
-use Rattle.rule_check.specs.CasesLaws.{are_within, number, number_small, tuple-number, within_from_words, tuple_within, words_of_tuple, length-tuple, length-var_bits, find_some, equal_from_none}
+use Rattle.rule_check.specs.Accepted.{cause_of_trial, cause_by, cause_at, checked_step, chosen_line, Claim, claim_of, fault_of_log, refused_at, refused_by_size, refused_among, refused_for, refusal_on}
+use Rattle.rule_check.specs.Cases.{trial_answer, trial_of, tuple, tuples, differs_at, first_difference}
+use Rattle.circuit_laws.specs.Variables.{var_bits, free_bits}
+use Rattle.rule_check.specs.CasesLaws.{number, number_small, tuple-number, tuple_within, words_of_tuple, length-tuple, find_some, equal_from_none}
+use Rattle.circuit_laws.specs.VariableLaws.{are_within, within_from_words, length-var_bits}
 use Rattle.rule_check.specs.SaidLaws.{refusal_as_said}
 use Rattle.rule_check.specs.Verdicts.{AreEqualAt, IsFirstDifference, IsGood, IsBad, IsRefusal, AcceptedHold, RefusedAreJust}
 
@@ -142,12 +149,22 @@ judged_by_derivation : (rule : Rule) → IsFormed rule → (widths : List Width)
 judged_by_derivation rule formed widths typing steps None is = record { through = is; equal = derivations_are_sound rule widths steps formed typing is }
 judged_by_derivation rule formed widths typing steps (Some wrong) is = is
 
+judged_by_log : (rule : Rule) → IsFormed rule → (widths : List Width) → is_typing rule widths ≡ true → (log : List LogStep) (without : Option Op) (found : Option LogFault)
+    → first_without rule ≡ without → fault_of_log rule widths log ≡ found
+    → Judged rule widths (Some (said.Logged log)) (option_or (option_map cause.NoCircuit without) (option_map cause.Log found))
+judged_by_log rule formed widths typing log (Some op) found lacks is = (tt, lacks)
+judged_by_log rule formed widths typing log None (Some wrong) none is = (none, is)
+judged_by_log rule formed widths typing log None None none is = record {
+  through = (none, is);
+  equal = clauses_show rule widths formed typing none (log_shows (rule_clauses rule widths) (map checked_step log) is);
+}
+
 judged_by : (rule : Rule) → IsFormed rule → (widths : List Width) → is_typing rule widths ≡ true → (evidence : Option Proof) → Judged rule widths evidence (cause_by rule widths evidence)
 judged_by rule formed widths typing None = refl
 judged_by rule formed widths typing (Some said.Cases) = judged_by_trial rule widths (cause_of_trial (trial_of rule widths)) (told_of_trial rule formed widths typing)
 judged_by rule formed widths typing (Some (said.Derive steps)) =
     judged_by_derivation rule formed widths typing steps (derivation_fault (record { rule = rule; widths = widths }) steps) refl
-judged_by rule formed widths typing (Some (said.Logged log)) = tt
+judged_by rule formed widths typing (Some (said.Logged log)) = judged_by_log rule formed widths typing log (first_without rule) (fault_of_log rule widths log) refl refl
 
 judged : (claim : Claim) → IsFormed claim.rule → (number : ℕ) (widths : List Width) → is_typing claim.rule widths ≡ true → Judged claim.rule widths (chosen_line number claim.lines) (cause_at claim number widths)
 unfolding cause_at

@@ -1,15 +1,16 @@
 //! The trial of all cases: both sides of a rule are computed for all values of its variables.
 
-ghost use Rattle.std.specs.Prelude.{◌≡◌, ◌≤◌, true, length, sum, IfOk};
+ghost use Rattle.std.specs.Prelude.{◌≡◌, ◌≤◌, ◌<◌, ◌^◌, true, length, sum, IfOk};
 ghost use Rattle.std.specs.Option.{option_map};
 ghost use Rattle.rule_term.specs.Typings.{is_typing};
 ghost use Rattle.rule_term.specs.Holds.{are_words};
-ghost use Rattle.rule_check.specs.Cases.{differs_at, first_difference, tuple, trial_of, var_bits};
+ghost use Rattle.rule_check.specs.Cases.{differs_at, first_difference, tuple, trial_of};
+ghost use Rattle.circuit_laws.specs.Variables.{var_bits};
 
 use crate::meets::meets;
-use crate::sizes::{bits_of_vars, total};
 use crate::values::Values;
 use arrayvec::ArrayVec;
+use bit_circuit::bits_of_vars;
 use nir_host::OutOfMemory;
 use rule_term::{Rule, Side, Typing, eval_term};
 use std::alloc::Global;
@@ -94,4 +95,12 @@ fn differs(rule: &Rule, typing: &Typing, values: &[u64]) -> bool
         return false;
     }
     eval_term(rule, Side::Search, typing, values) != eval_term(rule, Side::Replace, typing, values)
+}
+
+/// The sum of the bits.
+fn total(bits: &[u32]) -> u32
+    requires { sum bits.now < 2 ^ 32 }
+    ensures { result ≡ sum bits.now }
+{
+    bits.iter().sum()
 }

@@ -7,12 +7,16 @@ ghost use Rattle.rule_check.specs.Lines.{is_for};
 ghost use Rattle.rule_term.specs.Formed.{IsFormed};
 ghost use Rattle.rule_term.specs.Typings.{is_typing};
 ghost use Rattle.size_infer.specs.Grown.{all_widths_of};
-ghost use Rattle.rule_read.specs.Says.{entry_says, line_says, proof_says, step_says};
-ghost use Rattle.rule_check.specs.Accepted.{cause_at, cause_of_derivation, cause_of_trial, chosen_line, claim_of, refusal_of, refused_among, refused_by_size};
+ghost use Rattle.rule_read.specs.Says.{entry_says, line_says, log_step_says, proof_says, step_says};
+ghost use Rattle.rule_check.specs.Accepted.{cause_at, cause_of_derivation, cause_of_log, cause_of_trial, chosen_line, claim_of, refusal_of, refused_among, refused_by_size};
 ghost use Rattle.rule_check.specs.Cases.{trial_of};
+ghost use Rattle.clause_check.specs.Logs.{log_fault};
+ghost use Rattle.rule_check.specs.declared.refused.RuleCause.TheVariants.{Log as BadLog};
 
 use crate::cases::{Trial, try_cases};
 use crate::refused::{Refused, RuleCause};
+use bit_circuit::{CircuitFault, clauses_of};
+use clause_check::{Clauses, Log, LogFault, check_log};
 use law_derive::{DeriveFault, check_derivation};
 use nir_host::OutOfMemory;
 use rule_read::{Derivation, Entry, Line, Proof};
@@ -78,7 +82,7 @@ fn cause_at(
     match chosen_proof(entry.lines.as_slice(), number) {
         Some(Proof::Cases) => cause_of_trial(alloc, &entry.rule, typing),
         Some(Proof::Derive(steps)) => cause_of_derivation(alloc, &entry.rule, typing, steps),
-        Some(Proof::Logged(_)) => Ok(Some(RuleCause::NotBuilt)),
+        Some(Proof::Logged(log)) => cause_of_log(alloc, &entry.rule, typing, log),
         None => Ok(Some(RuleCause::NoEvidence)),
     }
 }
@@ -119,6 +123,41 @@ fn cause_of_derivation(
         }
         Err(DeriveFault::WrongEnd) => Ok(Some(RuleCause::Derive(DeriveFault::WrongEnd))),
         Err(DeriveFault::OutOfMemory) => Err(OutOfMemory),
+    }
+}
+
+/// What is wrong with a log at the typing. The clauses of the rule are made for it, and are free again at the end.
+fn cause_of_log(
+    alloc: Global,
+    rule: &Rule,
+    typing: &Typing,
+    log: &Log,
+) -> Result<Option<RuleCause>, OutOfMemory>
+    requires { is_typing rule.now typing.now.widths ≡ true }
+    ensures { IfOk result (λ cause. cause ≡ cause_of_log rule.now typing.now.widths (map log_step_says log.now)) }
+{
+    match clauses_of(alloc, rule, typing) {
+        Ok(clauses) => cause_among(alloc, &clauses, log),
+        Err(CircuitFault::NoCircuit(op)) => Ok(Some(RuleCause::NoCircuit(op))),
+        Err(CircuitFault::OutOfMemory) => Err(OutOfMemory),
+    }
+}
+
+/// What is wrong with a log that begins with these clauses.
+fn cause_among(
+    alloc: Global,
+    clauses: &Clauses,
+    log: &Log,
+) -> Result<Option<RuleCause>, OutOfMemory>
+    ensures { IfOk result (λ cause. cause ≡ option_map BadLog (log_fault clauses.now log.now)) }
+{
+    match check_log(alloc, clauses, log) {
+        Ok(()) => Ok(None),
+        Err(LogFault::TooLong) => Ok(Some(RuleCause::Log(LogFault::TooLong))),
+        Err(LogFault::BadHint(step)) => Ok(Some(RuleCause::Log(LogFault::BadHint(step)))),
+        Err(LogFault::NotUnit(step)) => Ok(Some(RuleCause::Log(LogFault::NotUnit(step)))),
+        Err(LogFault::NoEmpty) => Ok(Some(RuleCause::Log(LogFault::NoEmpty))),
+        Err(LogFault::OutOfMemory) => Err(OutOfMemory),
     }
 }
 

@@ -18,8 +18,8 @@ use rule_term::Table;
 use std::alloc::Global;
 
 /// The table of the rules of the file, in order, with the weights of the file, where each rule is accepted: its sizes have no
-/// fault, and at each of its typings the line chosen is the trial of all cases, which finds no difference, or a derivation in
-/// which nothing is wrong.
+/// fault, and at each of its typings the line chosen is the trial of all cases, which finds no difference, or a derivation or a
+/// log in which nothing is wrong.
 /// # Errors
 /// `Refused` tells the first rule in the order of the file that is not accepted, and why (`specs/Accepted.antt`).
 /// `OutOfMemory` may come at any time.

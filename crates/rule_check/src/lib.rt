@@ -1,5 +1,6 @@
-//! Judging the evidence of rules: at each typing of a rule the trial of all cases, or a derivation by laws. What a derivation is, and
-//! whether one goes through, is the matter of `law_derive`.
+//! Judging the evidence of rules: at each typing of a rule the trial of all cases, a derivation by laws, or a log over the clauses of the
+//! rule. What a derivation is, and whether one goes through, is the matter of `law_derive`; the clauses are that of `bit_circuit`, and
+//! logs that of `clause_check`.
 #![tactic(auto)]
 
 mod cases;
@@ -7,7 +8,6 @@ mod evidence;
 mod file;
 mod meets;
 mod refused;
-mod sizes;
 mod values;
 
 pub use cases::{Trial, try_cases};

@@ -52,7 +52,7 @@ fn value_of(values: &[u64], var: u32) -> u64
 
 /// Walks over terms whose first node has the size at a place.
 #[cycle(met)]
-#[tactic(auto, using(crate::proofs::Walks::walk_steps))]
+#[tactic(auto, using(bit_circuit::proofs::Walks::walk_steps))]
 fn met_in_list(list: &[Term], widths: &[Width], at: usize, values: &[u64]) -> Seen
     requires room { at + size_of (terms_of list.now) ≤ length widths.now }
     requires words { list_all (is_word values.now) (occurrences (terms_of list.now) (drop at widths.now)) ≡ true }
@@ -71,7 +71,7 @@ fn met_in_list(list: &[Term], widths: &[Width], at: usize, values: &[u64]) -> Se
 
 /// Walks over a term.
 #[cycle(met)]
-#[tactic(auto, using(crate::proofs::Walks::walk_steps))]
+#[tactic(auto, using(bit_circuit::proofs::Walks::walk_steps))]
 fn met_in_term(term: &Term, widths: &[Width], at: usize, values: &[u64]) -> Seen
     requires room { at + size_of (terms_of (term.now ∷ [])) ≤ length widths.now }
     requires words { list_all (is_word values.now) (occurrences (terms_of (term.now ∷ [])) (drop at widths.now)) ≡ true }

@@ -4,8 +4,10 @@ ghost use Rattle.std.specs.Prelude.{◌≡◌};
 ghost use Rattle.rule_check.specs.declared.refused.CheckFault.TheVariants.{OutOfMemory as NoMemory};
 
 use crate::values::Values;
+use clause_check::LogFault;
 use law_derive::DeriveFault;
 use nir_host::{OutOfMemory, Seq};
+use nir_ops::Op;
 use rule_term::Table;
 use size_infer::SizeFault;
 
@@ -20,11 +22,15 @@ pub enum RuleCause {
     Cases(Values),
     /// All cases were to be tried, and the variables have more than 16 bits.
     TooManyCases,
+    /// The evidence is a log, and this is the first opcode without a circuit, in preorder, the search side first. What the log
+    /// holds plays no part then.
+    NoCircuit(Op),
+    /// The evidence is a log: the first step that fails, and why, or that the log is too long or has no empty clause. Want of
+    /// memory never stands here.
+    Log(LogFault),
     /// The evidence is a derivation: the first step that does not apply, and why, or that it ends elsewhere. Want of memory
     /// never stands here.
     Derive(DeriveFault),
-    /// The evidence is a log, which is not checked yet.
-    NotBuilt,
 }
 
 /// A rule that is not accepted: its number, the number of the first typing without good evidence, and why. There is no

@@ -118,7 +118,7 @@ rule 0 accepted|[((iadd, a, 0), a), by * cases, by 2 derive [(3, [])], by 3 deri
 rule 0 accepted|[((iadd, a, 0), a, '!options->o'), by * derive [(3, [])]]
 rule 0 typing 1: derivation ends elsewhere|[((iadd, a, 0), a), by 0 derive [(3, [])], by * derive []]
 rule 0 typing 1: derivation step 0: no match|[((imul, a, 65535), (ineg, a)), by * derive [(14, [])]]
-rule 0 typing 2: not built|[((iadd, a, 0), a), by * derive [(3, [])], by 2 log []]";
+rule 0 typing 2: log has no empty clause|[((iadd, a, 0), a), by * derive [(3, [])], by 2 log []]";
 
 /// The line of a file of one rule.
 fn line_of(alloc: Global, text: &[u8]) -> Result<String, Fail> {

@@ -23,6 +23,8 @@ mod rule_faults;
 #[cfg(test)]
 mod rule_limits;
 #[cfg(test)]
+mod rule_logs;
+#[cfg(test)]
 mod rule_sizes;
 #[cfg(test)]
 mod rule_texts;
@@ -32,6 +34,8 @@ mod rules;
 mod shown_evidence;
 #[cfg(test)]
 mod shown_rules;
+#[cfg(test)]
+mod solver_logs;
 #[cfg(test)]
 mod variants;
 #[cfg(test)]

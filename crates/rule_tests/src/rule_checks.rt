@@ -1,6 +1,8 @@
 //! Texts of rules, and what checking them answers: all of them at once, and with what is not accepted left out.
 
+use clause_check::LogFault;
 use law_derive::DeriveFault;
+use nir_ops::name;
 use rule_check::{CheckFault, Refused, RuleCause, check_file, check_file_skipping};
 use rule_read::{RuleFile, read_rules};
 use rule_term::Table;
@@ -107,6 +109,16 @@ fn show_derive(out: &mut String, fault: DeriveFault) -> Result<(), AllocError> {
     }
 }
 
+fn show_log_fault(out: &mut String, fault: LogFault) -> Result<(), AllocError> {
+    match fault {
+        LogFault::TooLong => out.push_str("log too long"),
+        LogFault::BadHint(step) => write!(out, "log step {step}: bad hint"),
+        LogFault::NotUnit(step) => write!(out, "log step {step}: not a unit"),
+        LogFault::NoEmpty => out.push_str("log has no empty clause"),
+        LogFault::OutOfMemory => out.push_str("out of memory"),
+    }
+}
+
 /// The refusal in words.
 pub(crate) fn show_refused(out: &mut String, refused: &Refused) -> Result<(), AllocError> {
     write!(out, "rule {}", refused.rule)?;
@@ -126,12 +138,13 @@ pub(crate) fn show_refused(out: &mut String, refused: &Refused) -> Result<(), Al
         }
         RuleCause::TooManyCases => out.push_str("too many cases"),
         RuleCause::Derive(fault) => show_derive(out, *fault),
-        RuleCause::NotBuilt => out.push_str("not built"),
+        RuleCause::NoCircuit(op) => write!(out, "no circuit for {}", name(*op)),
+        RuleCause::Log(fault) => show_log_fault(out, *fault),
     }
 }
 
 /// What checking a file answers, in words.
-fn verdict(alloc: Global, file: RuleFile) -> Result<String, AllocError> {
+pub(crate) fn verdict(alloc: Global, file: RuleFile) -> Result<String, AllocError> {
     let mut out = String::new(alloc);
     match check_file(alloc, file) {
         Ok(table) => show_table(&mut out, &table)?,

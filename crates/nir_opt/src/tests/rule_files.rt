@@ -211,7 +211,7 @@ const NOT_ACCEPTED: Case<'static> = Case {
     ..REFUSED
 };
 
-static CAUSES: [Case; 9] = [
+static CAUSES: [Case; 8] = [
     Case {
         rules: Text::Whole(b"[(('iadd', 'a@8', 0), ('iadd', a, ('u2u8', 0))), by * cases]"),
         notes: b"rules: rule 0: node 3 has no size\n",
@@ -255,12 +255,6 @@ static CAUSES: [Case; 9] = [
     Case {
         rules: Text::Whole(b"[(('udiv', a, 1), a), by * derive [(57, [])]]"),
         notes: b"rules: rule 0 typing 0: derivation step 0: no law\n",
-        ..NOT_ACCEPTED
-    },
-    // logs are read, and not checked yet
-    Case {
-        rules: Text::Whole(b"[(('udiv', a, 1), a), by * log [([1, -2], [3])]]"),
-        notes: b"rules: rule 0 typing 0: not built\n",
         ..NOT_ACCEPTED
     },
 ];

@@ -8,7 +8,7 @@ use Rattle.std.proofs.lemmas.Bool.{and_parts, ltb-true}
 use Rattle.rule_term.specs.Terms.{terms_of}
 use Rattle.rule_term.specs.Typings.{size_of, occurrences}
 use Rattle.rule_term.specs.Holds.{is_word, is_met}
-use Rattle.rule_check.proofs.Walks.{all-step, all-var, all-app, room-step, place-step, room-app, size-step}
+use Rattle.bit_circuit.proofs.Walks.{all-step, all-var, all-app, room-step, place-step, room-app, size-step}
 use Rattle.rule_check.proofs.meets.+met.Goals as goal
 
 pub met_in_list-met_in_term-seen-requires : goal.met_in_list-met_in_term-seen-requires

@@ -2,7 +2,7 @@ use Rattle.std.proofs.Common.{◌≤◌, ◌+◌, length, sym, ap, subst, ◌∙
 use Rattle.std.specs.List.{list_all}
 use Rattle.rule_term.specs.Typings.{size_of, occurrences}
 use Rattle.rule_term.specs.Holds.{is_word, is_met}
-use Rattle.rule_check.proofs.Walks.{occurrences-search, typing-room}
+use Rattle.bit_circuit.proofs.Walks.{occurrences-search, typing-room}
 use Rattle.rule_check.proofs.meets.meets.Goals as goal
 
 pub met_in_term-requires-clause-room : goal.met_in_term-requires-clause-room

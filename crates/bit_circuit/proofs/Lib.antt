@@ -1,0 +1,9 @@
+pub mod AskedLemmas
+pub mod BlockLemmas
+pub mod ClausesLemmas
+pub mod ConditionsLemmas
+pub mod GrowthLemmas
+pub mod TermsLemmas
+pub mod Walks
+pub mod WithoutLemmas
+pub mod WordLemmas
