@@ -1,0 +1,5 @@
+pub mod Dimacs
+pub mod Words
+pub mod Answers
+pub mod Asked
+pub mod Ran
